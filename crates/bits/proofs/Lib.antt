@@ -1,0 +1,4 @@
+pub mod Bools
+pub mod Patterns
+pub mod Rows
+pub mod Words

@@ -1,0 +1,19 @@
+-- Bits of a word.
+--
+--   num t       ==  1 where t holds, else 0
+--   bit i w     ==  bit i of the word is set
+--   meets a b   ==  the two words have a bit in common: the Rust's `a & b != 0`
+use Prim.Native.Nat.{ℕ, _/_, _%_, _^_}
+use mathlib.Core.Bool.{Bool, true, false, not}
+use lib.Dec.{eqb}
+use lib.Bits.{bitAnd}
+
+abbrev pub num : Bool → ℕ
+num true = 1
+num false = 0
+
+abbrev pub bit : ℕ → ℕ → Bool
+bit i w = eqb (w / 2 ^ i % 2) 1
+
+abbrev pub meets : ℕ → ℕ → Bool
+meets a b = not (eqb (bitAnd a b) 0)

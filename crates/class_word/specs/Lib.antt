@@ -1,0 +1,2 @@
+-- Document 01, part 1: the class word. One file.
+pub mod Word
