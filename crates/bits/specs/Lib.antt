@@ -1,10 +1,12 @@
 -- What an opcode's bits say. Shared by the definitions of document 01's parts.
 --
---   Pattern   ==  opcode patterns, and when an opcode matches one
---   Fields    ==  the fields of an opcode
---   Rows      ==  a rule as rows tried in order
---   Words     ==  two words with a bit in common, and one bit of a word
+--   Pattern       ==  opcode patterns, and when an opcode matches one
+--   Instructions  ==  the patterns of instructions, by group
+--   Fields        ==  the fields of an opcode
+--   Rows          ==  a rule as rows tried in order
+--   Words         ==  two words with a bit in common, and one bit of a word
 pub mod Pattern
+pub mod Instructions
 pub mod Fields
 pub mod Rows
 pub mod Words
