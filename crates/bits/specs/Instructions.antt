@@ -119,6 +119,3 @@ bitField = bits I X X X I I X X X X X X
 
 abbrev pub rox : Pattern
 rox = bits I O X X X
-
-abbrev pub countInRegister : Pattern
-countInRegister = bits I X X X X X

@@ -245,7 +245,7 @@ fn group5(op: u16) -> Info060
 fn group6(op: u16) -> Info060
     ensures { λ r. ⌜ r ≡ packed (group6 op) ⌝ }
 {
-    if (op & 0x0F00) == 0x0000 {
+    if (op & 0x0F00) == 0 {
         Info060::new(OepClass::PoepOnly, 7, F_BRANCH)
     } else {
         Info060::new(OepClass::PoepOnly, 7, F_BRANCH | F_USES_CCR_LATE)
@@ -333,7 +333,7 @@ fn group14(op: u16) -> Info060
         Info060::new(
             OepClass::PoepSoep,
             1,
-            F_DEFINES_CCR | F_READS_MEM | F_WRITES_MEM,
+            F_DEFINES_CCR | F_READS_MEM | F_WRITES_MEM, // never F_EA_INDEXED
         )
     } else if (op & 0x0018) == 0x0010 {
         Info060::new(OepClass::PoepOnly, 1, F_DEFINES_CCR | F_USES_CCR_LATE)

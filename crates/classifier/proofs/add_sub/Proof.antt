@@ -20,7 +20,7 @@ alu-of-requires-3 c κs = search needs
 
 returns : tie.Need-returns
 unfolding addSub
-returns c = search (needs, hit, miss)
+returns c = search (needs, hit)
 
 returns-2 : tie.Need-returns-2
 unfolding addSub
@@ -32,7 +32,7 @@ returns-3 c = search (needs, hit, miss)
 
 returns-4 : tie.Need-returns-4
 unfolding addSub
-returns-4 c = search (needs, hit, miss)
+returns-4 c = search (needs, miss)
 
 pub add-sub-spec : {M : Type 1} → statement M
 add-sub-spec =

@@ -29,7 +29,7 @@ alu-of-requires-2 c κs = search needs
 
 returns : tie.Need-returns
 unfolding group0
-returns c = search (needs, hit, miss)
+returns c = search (needs, hit)
 
 returns-2 : tie.Need-returns-2
 unfolding group0
@@ -53,7 +53,7 @@ returns-6 c = search (needs, hit, miss)
 
 returns-7 : tie.Need-returns-7
 unfolding group0
-returns-7 c = search (needs, hit, miss)
+returns-7 c = search (needs, miss)
 
 pub group0-spec : {M : Type 1} → statement M
 group0-spec =

@@ -17,7 +17,7 @@ alu-of-requires-3 c κs = search needs
 
 returns : tie.Need-returns
 unfolding group11
-returns c = search (needs, hit, miss)
+returns c = search (needs, hit)
 
 returns-2 : tie.Need-returns-2
 unfolding group11
@@ -25,7 +25,7 @@ returns-2 c = search (needs, hit, miss)
 
 returns-3 : tie.Need-returns-3
 unfolding group11
-returns-3 c = search (needs, hit, miss)
+returns-3 c = search (needs, miss)
 
 pub group11-spec : {M : Type 1} → statement M
 group11-spec =

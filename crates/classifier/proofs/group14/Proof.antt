@@ -20,7 +20,7 @@ new-requires-3 c κs = search needs
 
 returns : tie.Need-returns
 unfolding group14
-returns c = search (needs, hit, miss)
+returns c = search (needs, hit)
 
 returns-2 : tie.Need-returns-2
 unfolding group14
@@ -32,7 +32,7 @@ returns-3 c = search (needs, hit, miss)
 
 returns-4 : tie.Need-returns-4
 unfolding group14
-returns-4 c = search (needs, hit, miss)
+returns-4 c = search (needs, miss)
 
 pub group14-spec : {M : Type 1} → statement M
 group14-spec =

@@ -13,7 +13,7 @@ new-requires c κs = search needs
 
 returns : tie.Need-returns
 unfolding group4 ea
-returns c = search (needs, hit, miss)
+returns c = search (needs, hit)
 
 new-requires-2 : tie.Need-new-requires-2
 new-requires-2 c κs = search needs
@@ -44,7 +44,7 @@ new-requires-5 c κs = search needs
 
 returns-5 : tie.Need-returns-5
 unfolding group4 ea
-returns-5 c = search (needs, hit, miss, sym (c .before .before .is-movem .ensures) ∙ c .before .if5 .taken)
+returns-5 c = search (needs, miss, sym (c .before .before .is-movem .ensures) ∙ c .before .if5 .taken)
 
 new-requires-6 : tie.Need-new-requires-6
 new-requires-6 c κs = search needs
@@ -75,14 +75,14 @@ alu-of-requires c κs = search needs
 
 returns-9 : tie.Need-returns-9
 unfolding group4 ea
-returns-9 c = search (needs, hit, miss, sym (c .before .before .before .before .before .before .before .is-movem .ensures) ∙ c .before .before .before .before .before .before .if5 .left, sym (c .before .before .is-nbcd-or-ext .ensures) ∙ c .before .if9 .taken)
+returns-9 c = search (needs, miss, sym (c .before .before .before .before .before .before .before .is-movem .ensures) ∙ c .before .before .before .before .before .before .if5 .left, sym (c .before .before .is-nbcd-or-ext .ensures) ∙ c .before .if9 .taken)
 
 group4-rest-requires : tie.Need-group4-rest-requires
 group4-rest-requires c κs = search needs
 
 returns-10 : tie.Need-returns-10
 unfolding group4 ea
-returns-10 c = search (needs, hit, miss, sym (c .before .before .before .before .before .before .before .is-movem .ensures) ∙ c .before .before .before .before .before .before .if5 .left, sym (c .before .before .is-nbcd-or-ext .ensures) ∙ c .before .if9 .left)
+returns-10 c = search (needs, miss, sym (c .before .before .before .before .before .before .before .is-movem .ensures) ∙ c .before .before .before .before .before .before .if5 .left, sym (c .before .before .is-nbcd-or-ext .ensures) ∙ c .before .if9 .left)
 
 pub group4-spec : {M : Type 1} → statement M
 group4-spec =

@@ -11,7 +11,7 @@ alu-of-requires c κs = search needs
 
 returns : tie.Need-returns
 unfolding group4
-returns c = search (needs, hit, miss)
+returns c = search (needs, hit)
 
 alu-of-requires-2 : tie.Need-alu-of-requires-2
 alu-of-requires-2 c κs = search needs
@@ -60,7 +60,7 @@ new-requires-2 c κs = search needs
 
 returns-8 : tie.Need-returns-8
 unfolding group4
-returns-8 c = search (needs, hit, miss)
+returns-8 c = search (needs, miss)
 
 pub group4-rest-spec : {M : Type 1} → statement M
 group4-rest-spec =

@@ -17,7 +17,7 @@ alu-of-requires c κs = search needs
 
 returns : tie.Need-returns
 unfolding group5
-returns c = search (needs, hit, miss)
+returns c = search (needs, hit)
 
 returns-2 : tie.Need-returns-2
 unfolding group5
@@ -25,7 +25,7 @@ returns-2 c = search (needs, hit, miss)
 
 returns-3 : tie.Need-returns-3
 unfolding group5
-returns-3 c = search (needs, hit, miss)
+returns-3 c = search (needs, miss)
 
 pub group5-spec : {M : Type 1} → statement M
 group5-spec =

@@ -14,11 +14,11 @@ new-requires-2 c κs = search needs
 
 returns : tie.Need-returns
 unfolding group6
-returns c = search (needs, hit, miss)
+returns c = search (needs, hit)
 
 returns-2 : tie.Need-returns-2
 unfolding group6
-returns-2 c = search (needs, hit, miss)
+returns-2 c = search (needs, miss)
 
 pub group6-spec : {M : Type 1} → statement M
 group6-spec = tie.close (tie.spec new-requires new-requires-2 returns returns-2)

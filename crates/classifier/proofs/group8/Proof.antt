@@ -23,7 +23,7 @@ alu-of-requires-2 c κs = search needs
 
 returns : tie.Need-returns
 unfolding group8
-returns c = search (needs, hit, miss)
+returns c = search (needs, hit)
 
 returns-2 : tie.Need-returns-2
 unfolding group8
@@ -39,7 +39,7 @@ returns-4 c = search (needs, hit, miss)
 
 returns-5 : tie.Need-returns-5
 unfolding group8
-returns-5 c = search (needs, hit, miss)
+returns-5 c = search (needs, miss)
 
 pub group8-spec : {M : Type 1} → statement M
 group8-spec =

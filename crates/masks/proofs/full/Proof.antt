@@ -1,0 +1,13 @@
+-- `masks::full`: FFFF is the mask of every register.
+-- Assumes nothing.
+use Rattle.masks.specs.Masks.{undecoded}
+use Rattle.masks.proofs.Registers.{mask-all}
+use Rattle.masks.proofs.Sets.{pair}
+use Rattle.masks.proofs.full.Statement.{statement}
+use Rattle.masks.proofs.full.Tie as tie
+
+returns : tie.Need-returns
+returns c = pair undecoded mask-all mask-all
+
+pub full-spec : {M : Type 1} → statement M
+full-spec = tie.close (tie.spec returns)

@@ -1,0 +1,13 @@
+-- The table of worked instructions, computed.
+-- Assumes nothing.
+use mathlib.Core.Path.{refl}
+use Rattle.bits.specs.Pattern.{matches}
+use Rattle.classifier.specs.Entry.{ea}
+use Rattle.classifier.specs.Classify.{classifyOf, group0, move, group4, group5, group6, group7, group8, addSub, group11, group12, group14}
+use Rattle.masks.specs.Registers.{maskOfRegs}
+use Rattle.masks.specs.Masks.{setsOf, operandSets, registerOperand, dyadicSets, shiftSets, group4Sets}
+use Rattle.promises.specs.Worked.{Worked}
+
+pub worked : Worked
+unfolding matches ea classifyOf group0 move group4 group5 group6 group7 group8 addSub group11 group12 group14 maskOfRegs setsOf operandSets registerOperand dyadicSets shiftSets group4Sets
+worked = record { every = refl }

@@ -1,0 +1,1 @@
+// What is promised of the definitions: statements in specs/, their proofs in proofs/. No code.

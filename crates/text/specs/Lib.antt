@@ -1,0 +1,2 @@
+-- Numbers as the tools print them. One file.
+pub mod Hex
