@@ -1,0 +1,5 @@
+pub mod Raw
+pub mod Rules
+pub mod Sound
+pub mod Zero
+pub mod Seen

@@ -1,0 +1,89 @@
+-- Document 01, "One retirement": the cost and the next window. The Rust: cycles_060 past the lookup, branch_cost_060.
+--
+--   staticCost dbcc taken              ==  a branch of which the cache was not asked   "DBcc 2 taken, 3 expired; others 7 taken, 1 not"
+--   askedCost predicted taken opened   ==  a branch of which the cache was asked       "predicted and taken costs 0 if the window was open, else 1;
+--                                                                                      neither costs 1; a mismatch costs 7"
+--   branchCost dbcc taken opened a     ==  the one or the other, by the cache's answer
+--   flowCost raw                       ==  another change of flow                      "the larger of the fallback and 5"
+--   plainOf word raw                   ==  "the fallback if VARIABLE or UNCLASSIFIED, or the packed clocks"
+--   baseOf i k                         ==  the base                                    "plus 1 if indexed"
+--   pairs i k w                        ==  it joins the head                           "If the window is open and the dispatch test passes"
+--   headOf i k                         ==  the window with this instruction as head    "the window becomes this instruction's, unless its class
+--                                                                                      is 1, which shuts it"
+--   costBy, windowBy                   ==  cost and next window, one line for each of document 01's three points
+--   costOf r, windowOf r               ==  what the retirement r costs, and the window that it leaves
+--   retire r                           ==  both, as the code hands them back
+--
+-- In `costBy` the base less 1 is 0 where the base is 0, as the Rust's `.max(0)` has it.
+use Prim.Native.Nat.{ℕ, _+_, _-_, max}
+use mathlib.Core.Bool.{Bool, true, false, cond, _&&_, _||_}
+use lib.Dec.{eqb}
+use lib.IntN.{ℤ}
+use Rattle.class_word.specs.Word.{has, classOf, clocksOf, clocks, DBCC, VARIABLE, UNCLASSIFIED, «EA_INDEXED», «DEFINES_CCR»}
+use Rattle.pairing.specs.Raw.{fallbackOf}
+use Rattle.pairing.specs.Retiring.{Retiring, shut, takenOf, predictsTaken, Kind, branch, flow, neither, kindOf}
+use Rattle.pairing.specs.Dispatch.{memory, passes}
+use Rattle.pairing.specs.declared.Instruction.{Instruction}
+use Rattle.pairing.specs.declared.Controls.{Controls}
+use Rattle.pairing.specs.declared.Window.{Window}
+use Rattle.pairing.specs.declared.Answer.{Answer}
+use Rattle.pairing.specs.declared.Answer.the-variants.{NotConsulted, Miss, PredictedNotTaken, PredictedTaken}
+use Rattle.pairing.specs.declared.Retired.{Retired}
+
+abbrev pub staticCost : Bool → Bool → ℕ
+staticCost dbcc taken = cond dbcc (cond taken 2 3) (cond taken 7 1)
+
+abbrev pub askedCost : Bool → Bool → Bool → ℕ
+askedCost true true opened = cond opened 0 1
+askedCost true false opened = 7
+askedCost false true opened = 7
+askedCost false false opened = 1
+
+abbrev pub branchCost : Bool → Bool → Bool → Answer → ℕ
+branchCost dbcc taken opened NotConsulted = staticCost dbcc taken
+branchCost dbcc taken opened Miss = askedCost (predictsTaken Miss) taken opened
+branchCost dbcc taken opened PredictedNotTaken = askedCost (predictsTaken PredictedNotTaken) taken opened
+branchCost dbcc taken opened PredictedTaken = askedCost (predictsTaken PredictedTaken) taken opened
+
+abbrev pub flowCost : ℤ → ℕ
+flowCost raw = max (fallbackOf raw) 5
+
+unfoldable pub plainOf : ℕ → ℤ → ℕ
+plainOf word raw = cond (has word VARIABLE || has word UNCLASSIFIED) (fallbackOf raw) (clocksOf word)
+
+unfoldable pub baseOf : Instruction → Controls → ℕ
+baseOf i k = plainOf (i .word .0) (k .raw .0) + cond (has (i .word .0) «EA_INDEXED») 1 0
+
+unfoldable pub pairs : Instruction → Controls → Window → Bool
+pairs i k w = w .opened && passes i k w
+
+unfoldable pub headOf : Instruction → Controls → Window
+headOf i k =
+    cond (eqb (classOf (i .word .0)) 1)
+    shut
+    (record {
+      opened = true;
+      defs = i .defs;
+      ccr = has (i .word .0) «DEFINES_CCR»;
+      mem = memory (i .word .0);
+      warm = k .cached;
+    })
+
+abbrev pub costBy : Kind → Instruction → Controls → Window → Answer → ℕ
+costBy branch i k w a = branchCost (has (i .word .0) DBCC) (takenOf i k) (w .opened) a
+costBy flow i k w a = flowCost (k .raw .0)
+costBy neither i k w a = cond (pairs i k w) (baseOf i k - 1) (baseOf i k)
+
+abbrev pub windowBy : Kind → Instruction → Controls → Window → Window
+windowBy branch i k w = shut
+windowBy flow i k w = shut
+windowBy neither i k w = cond (pairs i k w) shut (headOf i k)
+
+unfoldable pub costOf : Retiring → ℕ
+costOf r = costBy (kindOf (r .instruction) (r .controls)) (r .instruction) (r .controls) (r .window) (r .answer)
+
+unfoldable pub windowOf : Retiring → Window
+windowOf r = windowBy (kindOf (r .instruction) (r .controls)) (r .instruction) (r .controls) (r .window)
+
+abbrev pub retire : Retiring → Retired
+retire r = record { cost = clocks (costOf r); window = windowOf r }

@@ -1,0 +1,177 @@
+// Part 5 of document 01: what one event does to a state.
+ghost use mathlib.Core.Path.{_≡_};
+ghost use Rattle.step.specs.Events.{heard, consults};
+ghost use Rattle.step.specs.Crate.{crateProfile};
+ghost use Rattle.step.specs.Step.{turnedOf, steppedBy, steppedOf, afterOf, freshOf};
+ghost use Rattle.step.specs.declared.Event.the-variants.{Broken, ClearedAll, ClearedUser};
+use branch_cache::BranchCache060;
+use branch_cache::Predicted;
+use branch_cache::Slot;
+use class_word::Clocks;
+use class_word::F_BRANCH;
+use pairing::Answer;
+use pairing::Controls;
+use pairing::Instruction;
+use pairing::Window;
+
+// A retired instruction as the host passes it.
+pub struct Retirement {
+    pub op: u16,
+    pub controls: Controls,
+}
+
+// What can happen to a state.
+pub enum Event {
+    Retired(Retirement),
+    Broken,
+    ClearedAll,
+    ClearedUser,
+}
+
+// The timing state that a host keeps.
+pub struct Oep060Timing {
+    // branch_cache
+    pub cache: BranchCache060,
+    // pending_head
+    pub window: Window,
+}
+
+// The next state, and what the retirement costs.
+pub struct Stepped {
+    pub timing: Oep060Timing,
+    pub cost: Clocks,
+}
+
+// The next window, the next slot at ppc, and what the retirement costs: all that a run carries from one turn to the next.
+pub struct Turned {
+    pub window: Window,
+    pub slot: Slot,
+    pub cost: Clocks,
+}
+
+// What an opcode is to the pairing window.
+pub fn instruction_060(op: u16) -> Instruction
+    ensures { λ r. ⌜ r ≡ crateProfile op ⌝ }
+{
+    let info = classifier::info_060(op);
+    let masks = masks::reg_masks_060(op);
+    Instruction {
+        word: info,
+        uses: masks.uses,
+        defs: masks.defs,
+    }
+}
+
+// Whether a retirement asks the branch cache.
+fn consulted(i: Instruction, k: Controls) -> bool
+    ensures { λ r. ⌜ r ≡ consults i k ⌝ }
+{
+    if i.word.has(F_BRANCH) {
+        if k.ebc {
+            return k.cached;
+        }
+        return false;
+    }
+    false
+}
+
+fn answer_of(predicted: Predicted) -> Answer
+    ensures { λ r. ⌜ r ≡ heard predicted ⌝ }
+{
+    match predicted {
+        Predicted::Miss => Answer::Miss,
+        Predicted::NotTaken => Answer::PredictedNotTaken,
+        Predicted::Taken => Answer::PredictedTaken,
+    }
+}
+
+// One retirement, over the window and the slot of its ppc.
+pub fn turn(w: Window, slot: Slot, i: Instruction, k: Controls) -> Turned
+    ensures { λ r. ⌜ r ≡ turnedOf w slot i k ⌝ }
+{
+    if consulted(i, k) {
+        let answer = answer_of(slot.predict(k.ppc));
+        let retired = pairing::retire(i, k, w, answer);
+        let next = slot.update(k.ppc, pairing::taken(i, k), !k.supervisor);
+        let window = retired.window;
+        let cost = retired.cost;
+        return Turned {
+            window,
+            slot: next,
+            cost,
+        };
+    }
+    let retired = pairing::retire(i, k, w, Answer::NotConsulted);
+    let window = retired.window;
+    let cost = retired.cost;
+    Turned {
+        window,
+        slot,
+        cost,
+    }
+}
+
+// One retirement by what the instruction is, whatever the profile.
+fn step_by(timing: Oep060Timing, i: Instruction, k: Controls) -> Stepped
+    ensures { λ r. ⌜ r ≡ steppedBy timing i k ⌝ }
+{
+    let mut cache = timing.cache;
+    let n = BranchCache060::slot(k.ppc);
+    let slot = Slot {
+        tag: cache.tags[n],
+        byte: cache.state[n],
+    };
+    let turned = turn(timing.window, slot, i, k);
+    cache.tags[n] = turned.slot.tag;
+    cache.state[n] = turned.slot.byte;
+    let window = turned.window;
+    let next = Oep060Timing { cache, window };
+    let cost = turned.cost;
+    Stepped {
+        timing: next,
+        cost,
+    }
+}
+
+// The Rust's cycles_060: one retirement in the crate's profile.
+pub fn cycles_060(timing: Oep060Timing, r: Retirement) -> Stepped
+    ensures { λ o. ⌜ o ≡ steppedOf timing r ⌝ }
+{
+    let i = instruction_060(r.op);
+    step_by(timing, i, r.controls)
+}
+
+impl Oep060Timing {
+    pub fn fresh() -> Self
+        ensures { λ r. ⌜ r ≡ freshOf ⌝ }
+    {
+        let cache = BranchCache060::fresh();
+        let window = Window::shut();
+        Oep060Timing { cache, window }
+    }
+
+    // The rule of break_060_pipeline, by value.
+    pub fn broken(self) -> Self
+        ensures { λ r. ⌜ r ≡ afterOf self Broken ⌝ }
+    {
+        let cache = self.cache;
+        let window = Window::shut();
+        Oep060Timing { cache, window }
+    }
+
+    pub fn clear_all(self) -> Self
+        ensures { λ r. ⌜ r ≡ afterOf self ClearedAll ⌝ }
+    {
+        let cache = self.cache.clear_all();
+        let window = self.window.seen();
+        Oep060Timing { cache, window }
+    }
+
+    pub fn clear_user(self) -> Self
+        ensures { λ r. ⌜ r ≡ afterOf self ClearedUser ⌝ }
+    {
+        let cache = self.cache.clear_user();
+        let window = self.window.seen();
+        Oep060Timing { cache, window }
+    }
+}
