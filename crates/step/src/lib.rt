@@ -2,7 +2,7 @@
 ghost use mathlib.Core.Path.{_≡_};
 ghost use Rattle.step.specs.Events.{heard, consults};
 ghost use Rattle.step.specs.Crate.{crateProfile};
-ghost use Rattle.step.specs.Step.{turnedOf, steppedBy, steppedOf, afterOf, freshOf};
+ghost use Rattle.step.specs.Step.{timingAt, steppedAt, turnedOf, steppedBy, steppedOf, afterOf, seenOf, freshOf};
 ghost use Rattle.step.specs.declared.Event.the-variants.{Broken, ClearedAll, ClearedUser};
 use branch_cache::BranchCache060;
 use branch_cache::Predicted;
@@ -12,6 +12,7 @@ use class_word::F_BRANCH;
 use pairing::Answer;
 use pairing::Controls;
 use pairing::Instruction;
+use pairing::Retired;
 use pairing::Window;
 
 // A retired instruction as the host passes it.
@@ -104,41 +105,58 @@ pub fn turn(w: Window, slot: Slot, i: Instruction, k: Controls) -> Turned
     let retired = pairing::retire(i, k, w, Answer::NotConsulted);
     let window = retired.window;
     let cost = retired.cost;
-    Turned {
-        window,
-        slot,
-        cost,
-    }
+    Turned { window, slot, cost }
 }
 
-// One retirement by what the instruction is, whatever the profile.
-fn step_by(timing: Oep060Timing, i: Instruction, k: Controls) -> Stepped
-    ensures { λ r. ⌜ r ≡ steppedBy timing i k ⌝ }
+// One retirement in place, by what the instruction is, whatever the profile: of the arrays only the slot of ppc is stored.
+fn step_by(
+    tags: &mut [u32; 256],
+    state: &mut [u8; 256],
+    w: Window,
+    i: Instruction,
+    k: Controls,
+) -> Retired
+    ensures { λ r. ⌜ steppedAt (now (tags .exit)) (now (state .exit)) r ≡ steppedBy (timingAt (now (tags .entry)) (now (state .entry)) w) i k ⌝ }
 {
-    let mut cache = timing.cache;
     let n = BranchCache060::slot(k.ppc);
     let slot = Slot {
-        tag: cache.tags[n],
-        byte: cache.state[n],
+        tag: tags[n],
+        byte: state[n],
     };
-    let turned = turn(timing.window, slot, i, k);
-    cache.tags[n] = turned.slot.tag;
-    cache.state[n] = turned.slot.byte;
+    let turned = turn(w, slot, i, k);
+    let next = turned.slot;
+    tags[n] = next.tag;
+    state[n] = next.byte;
     let window = turned.window;
-    let next = Oep060Timing { cache, window };
     let cost = turned.cost;
-    Stepped {
-        timing: next,
-        cost,
-    }
+    Retired { cost, window }
 }
 
-// The Rust's cycles_060: one retirement in the crate's profile.
+// The one step that runs, batches and hosts share: one retirement in place, in the crate's profile.
+pub fn cycles_in_place(
+    tags: &mut [u32; 256],
+    state: &mut [u8; 256],
+    w: Window,
+    r: Retirement,
+) -> Retired
+    ensures { λ o. ⌜ steppedAt (now (tags .exit)) (now (state .exit)) o ≡ steppedOf (timingAt (now (tags .entry)) (now (state .entry)) w) r ⌝ }
+{
+    let i = instruction_060(r.op);
+    step_by(tags, state, w, i, r.controls)
+}
+
+// The Rust's cycles_060, by value.
 pub fn cycles_060(timing: Oep060Timing, r: Retirement) -> Stepped
     ensures { λ o. ⌜ o ≡ steppedOf timing r ⌝ }
 {
-    let i = instruction_060(r.op);
-    step_by(timing, i, r.controls)
+    let mut tags = timing.cache.tags;
+    let mut state = timing.cache.state;
+    let retired = cycles_in_place(&mut tags, &mut state, timing.window, r);
+    let cache = BranchCache060 { tags, state };
+    let window = retired.window;
+    let next = Oep060Timing { cache, window };
+    let cost = retired.cost;
+    Stepped { timing: next, cost }
 }
 
 impl Oep060Timing {
@@ -147,6 +165,15 @@ impl Oep060Timing {
     {
         let cache = BranchCache060::fresh();
         let window = Window::shut();
+        Oep060Timing { cache, window }
+    }
+
+    // As every entry point reads it: a shut window has zeros.
+    pub fn seen(self) -> Self
+        ensures { λ r. ⌜ r ≡ seenOf self ⌝ }
+    {
+        let cache = self.cache;
+        let window = self.window.seen();
         Oep060Timing { cache, window }
     }
 
