@@ -1,6 +1,10 @@
 -- The tender's demands and document 01's facts, as statements about the definitions of the crates below.
 --
---   Opcodes   ==  what holds of every opcode's class word
---   Worked    ==  the worked instructions that are proved
+--   Opcodes       ==  what holds of every opcode's class word
+--   Worked        ==  the worked instructions that are proved
+--   Retirements   ==  what holds of every retirement, break and clear
+--   Demand3       ==  demand 3: time moves
 pub mod Opcodes
 pub mod Worked
+pub mod Retirements
+pub mod Demand3

@@ -1,0 +1,113 @@
+-- Demand 3's bounds are reached: MOVEQ into D0 and D1 by turns.
+-- Assumes nothing.
+use mathlib.Core.Path.{_≡_, refl, sym, ap, ap₂, _∙_}
+use mathlib.Core.Bool.{Bool, true, false, not, cond}
+use mathlib.Core.List.{List, [], _∷_}
+use Prim.Native.Nat.{ℕ, zero, suc, _+_, _*_, _/_, _≤_}
+use native.Mathlib.Omega.{arith}
+use lib.ListN.{length}
+use lib.IntN.{pos}
+use Rattle.class_word.specs.Word.{info}
+use Rattle.pairing.specs.declared.Instruction.{Instruction}
+use Rattle.pairing.specs.declared.Controls.{Controls}
+use Rattle.pairing.specs.declared.Window.{Window}
+use Rattle.pairing.specs.declared.Answer.{Answer}
+use Rattle.pairing.specs.Retiring.{Retiring, shut, takenOf, kindOf}
+use Rattle.pairing.specs.Dispatch.{failing, firstFailing, holds, isSimple}
+use Rattle.pairing.specs.Cost.{costOf, windowOf, pairs, headOf, plainOf, baseOf}
+use Rattle.step.specs.declared.Retirement.{Retirement}
+use Rattle.step.specs.declared.Event.{Event}
+use Rattle.step.specs.declared.Event.the-variants.{Retired}
+use Rattle.step.specs.Board.{Board}
+use Rattle.step.specs.Events.{State, retiringOf, after, cacheAfter, retirements, costs, total, answerOf}
+
+-- MOVEQ: class 0, 1 clock, defines the CCR; uses nothing, and defines what is given
+abbrev pub moveq : ℕ → Instruction
+moveq d = record { word = info 0x0404; uses = 0; defs = d }
+
+abbrev pub calm : Controls
+calm = record { flowed = false; cached = true; ess = true; ebc = true; supervisor = true; ppc = 0; pc = 2; raw = record { 0 = pos 4 } }
+
+-- the window that MOVEQ into D0 opens
+abbrev pub opened₀ : Window
+opened₀ = record { opened = true; defs = 1; ccr = true; mem = false; warm = true }
+
+abbrev met : Instruction → Window → Answer → Retiring
+met i w a = record { instruction = i; controls = calm; window = w; answer = a }
+
+head-cost : (a : Answer) → costOf (met (moveq 1) shut a) ≡ 1
+unfolding costOf kindOf pairs baseOf plainOf
+head-cost a = refl
+
+head-opens : (a : Answer) → windowOf (met (moveq 1) shut a) ≡ opened₀
+unfolding windowOf kindOf pairs headOf
+head-opens a = refl
+
+tail-cost : (a : Answer) → costOf (met (moveq 2) opened₀ a) ≡ 0
+unfolding costOf kindOf pairs baseOf plainOf failing firstFailing holds isSimple
+tail-cost a = refl
+
+tail-shuts : (a : Answer) → windowOf (met (moveq 2) opened₀ a) ≡ shut
+unfolding windowOf kindOf pairs failing firstFailing holds isSimple
+tail-shuts a = refl
+
+module _ (B : Board) (op₀ op₁ : ℕ) (e₀ : B .profile op₀ ≡ moveq 1) (e₁ : B .profile op₁ ≡ moveq 2) where
+  -- the two kinds of turn: `false` from a shut window, `true` from the one that D0's MOVEQ opened
+  abbrev pub window : Bool → Window
+  window false = shut
+  window true = opened₀
+
+  abbrev op : Bool → ℕ
+  op false = op₀
+  op true = op₁
+
+  abbrev event : Bool → Retirement
+  event b = record { op = op b; controls = calm }
+
+  abbrev price : Bool → ℕ
+  price false = 1
+  price true = 0
+
+  abbrev pub moveqs : Bool → ℕ → List Event
+  moveqs b zero = []
+  moveqs b (suc n) = Retired (event b) ∷ moveqs (not b) n
+
+  abbrev pub start : B .rule .Cache → Bool → State (B .rule)
+  start c b = record { cache = c; window = window b }
+
+  costs-price : (c : B .rule .Cache) (b : Bool) → costOf (retiringOf B (start c b) (event b)) ≡ price b
+  costs-price c false = ap (λ (i : Instruction). costOf (met i shut (answerOf (B .rule) c i calm))) e₀ ∙ head-cost _
+  costs-price c true = ap (λ (i : Instruction). costOf (met i opened₀ (answerOf (B .rule) c i calm))) e₁ ∙ tail-cost _
+
+  abbrev later : B .rule .Cache → Window → Instruction → State (B .rule)
+  later c w i = record { cache = cacheAfter (B .rule) c i calm; window = windowOf (met i w (answerOf (B .rule) c i calm)) }
+
+  turns : (c : B .rule .Cache) (b : Bool) → after B (start c b) (Retired (event b)) ≡ start c (not b)
+  unfolding cacheAfter
+  turns c false = ap (later c shut) e₀ ∙ ap (λ (w : Window). record { cache = c; window = w }) (head-opens _)
+  turns c true = ap (later c opened₀) e₁ ∙ ap (λ (w : Window). record { cache = c; window = w }) (tail-shuts _)
+
+  pub counted : (n : ℕ) (b : Bool) (s : State (B .rule)) → length (retirements B s (moveqs b n)) ≡ n
+  unfolding retirements
+  counted zero b s = refl
+  counted (suc n) b s = ap suc (counted n (not b) (after B s (Retired (event b))))
+
+  -- half, rounded up from a shut window and down from the open one
+  abbrev pub half : Bool → ℕ → ℕ
+  half false n = (n + 1) / 2
+  half true n = n / 2
+
+  halves : (n : ℕ) (b : Bool) → price b + half (not b) n ≡ half b (suc n)
+  halves n false = omega arith
+  halves n true = omega arith
+
+  none-cost : (b : Bool) → 0 ≡ half b 0
+  none-cost true = refl
+  none-cost false = refl
+
+  pub reached : (n : ℕ) (b : Bool) (c : B .rule .Cache) → total (costs B (start c b) (moveqs b n)) ≡ half b n
+  unfolding retirements
+  reached zero b c = none-cost b
+  reached (suc n) b c =
+      ap₂ _+_ (costs-price c b) (ap (λ (s : State (B .rule)). total (costs B s (moveqs (not b) n))) (turns c b) ∙ reached n (not b) c)
+      ∙ halves n b

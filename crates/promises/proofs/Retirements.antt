@@ -1,0 +1,65 @@
+-- Facts of every retirement, break and clear, from the laws of the crates below; and `cycles_060`'s own promise, as the checker reads it.
+-- Assumes nothing.
+use mathlib.Core.Path.{_≡_, refl, sym, ap, _∙_}
+use mathlib.Core.Logic.{_↔_}
+use mathlib.Core.Bool.{true, _&&_, _||_}
+use contract.Lifetimes
+use Rattle.class_word.specs.declared.Clocks.{Clocks}
+use Rattle.class_word.specs.Word.{clocks}
+use Rattle.branch_cache.proofs.Laws.{cache-miss-keeps}
+use Rattle.pairing.specs.Retiring.{shut}
+use Rattle.pairing.specs.Cost.{costOf}
+use Rattle.pairing.proofs.Rules.{passes-simple}
+use Rattle.pairing.proofs.Zero.{pair-cost, pair-costs-nothing}
+use Rattle.step.specs.declared.Oep060Timing.{Oep060Timing}
+use Rattle.step.specs.declared.Stepped.{Stepped}
+use Rattle.step.specs.declared.Event.the-variants.{Retired}
+use Rattle.step.specs.Events.{retiringOf}
+use Rattle.step.specs.Crate.{crateBoard}
+use Rattle.step.specs.Step.{stateOf, steppedBy, steppedOf, afterOf}
+use Rattle.step.proofs.cycles_060.Reads as reads
+use Rattle.promises.specs.Retirements.{EveryEvent}
+use Rattle.promises.specs.Demand3.{joins, folds}
+use Rattle.promises.proofs.Demand.{crate-sound, crate-demand3}
+
+pub every-event : EveryEvent
+unfolding steppedBy
+every-event =
+    record {
+      stepCost = λ t r. refl;
+      stepState = λ t r. refl;
+      pairCost = λ r p. pair-cost r (p .straight) (p .kept) (p .waiting) (p .passed);
+      pairCostsNothing = λ t r p. pair-costs-nothing (retiringOf crateBoard (stateOf t) r) (crate-sound (r .op)) (p .kept) (p .waiting) (p .passed);
+      passingClass = λ i k w p. passes-simple i k w p .class0;
+      passingUnindexed = λ i k w p. passes-simple i k w p .unindexed;
+      passingClassified = λ i k w p. passes-simple i k w p .classified;
+      passingFixed = λ i k w p. passes-simple i k w p .fixed;
+      breakKeepsCache = λ t. refl;
+      breakShuts = λ t. refl;
+      clearAllKeepsTags = λ t. refl;
+      clearAllKeepsWindow = λ t. refl;
+      clearUserKeepsTags = λ t. refl;
+      clearUserKeepsWindow = λ t. refl;
+      missKeeps = λ c pc m user. cache-miss-keeps c pc user m;
+    }
+
+-- whatever `cycles_060` may hand back is the machine's cost and next state, so demand 3 is about it: here its first two sentences
+module _ (κs : Lifetimes.Lfts 0) (a : _) (o : _) (x : _) (p : reads.Post κs a o x) where
+  pub cycles-cost : o .cost ≡ clocks (costOf (retiringOf crateBoard (stateOf (a .0)) (a .1 .0)))
+  unfolding steppedBy
+  cycles-cost = ap (λ (s : Stepped). s .cost) p
+
+  pub cycles-state : o .timing ≡ afterOf (a .0) (Retired (a .1 .0))
+  unfolding steppedBy
+  cycles-state = ap (λ (s : Stepped). s .timing) p
+
+  pub cycles-zero : (o .cost ≡ clocks 0)
+      ↔ ((a .0 .window .opened && (joins crateBoard (stateOf (a .0)) (a .1 .0) || folds crateBoard (stateOf (a .0)) (a .1 .0))) ≡ true)
+  cycles-zero =
+      let zero = crate-demand3 .zeroExactly (stateOf (a .0)) (a .1 .0) in
+      (λ z. zero .0 (ap (λ (c : Clocks). c .0) (sym cycles-cost ∙ z)), λ h. cycles-cost ∙ ap clocks (zero .1 h))
+
+  pub cycles-zero-shuts : o .cost ≡ clocks 0 → o .timing .window ≡ shut
+  cycles-zero-shuts z =
+      ap (λ (t : Oep060Timing). t .window) cycles-state
+      ∙ crate-demand3 .thenShut (stateOf (a .0)) (a .1 .0) (ap (λ (c : Clocks). c .0) (sym cycles-cost ∙ z))
