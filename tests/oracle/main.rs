@@ -1,6 +1,7 @@
 //! The Rust module itself, asked from the command line.
 //!
-//! oracle opcodes    OPCODE WORD USE DEF of all 65,536 opcodes, a line each, in upper-case hex
+//! oracle all_opcodes   OPCODE WORD USE DEF of all 65,536 opcodes, a line each, in upper-case hex
+//! oracle worked        the worked instructions of document 01 that are run: the fallback, and RTS that flowed
 #![allow(dead_code, unexpected_cfgs)]
 
 mod core060 {
@@ -8,30 +9,51 @@ mod core060 {
     pub mod timing_060;
 }
 
+use core060::cpu::CpuCore;
 use core060::timing_060::{classify_060_opcode, info_060, reg_masks_060};
-use std::io::{BufWriter, Write};
+use std::io::{BufWriter, Result, Write};
 
-fn opcodes() -> std::io::Result<()> {
-    let mut out = BufWriter::new(std::io::stdout().lock());
+const RTS: u32 = 0x4E75;
+
+fn all_opcodes(out: &mut impl Write) -> Result<()> {
     for op in 0..=0xFFFFu16 {
         let word = classify_060_opcode(op).0;
         assert_eq!(word, info_060(op).0);
         let (uses, defs) = reg_masks_060(op);
         writeln!(out, "{op:04X} {word:04X} {uses:04X} {defs:04X}")?;
     }
-    out.flush()
+    Ok(())
+}
+
+// One retirement of RTS from a fresh state, its fetch not cached.
+fn rts(flowed: bool, raw: i32) -> i32 {
+    let mut cpu = CpuCore { ir: RTS, change_of_flow: flowed, ..CpuCore::default() };
+    cpu.cycles_060(raw, false)
+}
+
+fn worked(out: &mut impl Write) -> Result<()> {
+    // RTS is VARIABLE and not indexed, so that where the flow is kept its cost is the fallback's.
+    for raw in [i32::MIN, -1, 7, 8, 11, 12, i32::MAX] {
+        writeln!(out, "fallback {raw} {}", rts(false, raw))?;
+    }
+    for raw in [20, 24] {
+        writeln!(out, "flowed {raw} {}", rts(true, raw))?;
+    }
+    Ok(())
 }
 
 fn main() {
     let asked = std::env::args().nth(1);
+    let mut out = BufWriter::new(std::io::stdout().lock());
     let done = match asked.as_deref() {
-        Some("opcodes") => opcodes(),
+        Some("all_opcodes") => all_opcodes(&mut out),
+        Some("worked") => worked(&mut out),
         _ => {
-            eprintln!("usage: oracle opcodes");
+            eprintln!("usage: oracle all_opcodes | worked");
             std::process::exit(2);
         }
     };
-    if let Err(why) = done {
+    if let Err(why) = done.and_then(|()| out.flush()) {
         eprintln!("oracle: {why}");
         std::process::exit(1);
     }
