@@ -6,3 +6,5 @@ pub mod Zero
 pub mod Bounds
 pub mod Reached
 pub mod Demand
+pub mod DeterminedWords
+pub mod DeterminedEvents

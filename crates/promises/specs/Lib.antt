@@ -8,3 +8,4 @@ pub mod Opcodes
 pub mod Worked
 pub mod Retirements
 pub mod Demand3
+pub mod Determined
