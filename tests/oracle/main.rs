@@ -2,8 +2,14 @@
 //!
 //! oracle all_opcodes   OPCODE WORD USE DEF of all 65,536 opcodes, a line each, in upper-case hex
 //! oracle worked        the worked instructions of document 01 that are run: the fallback, and RTS that flowed
+//! oracle cost_lister, oracle replay   what these programs must print of standard input
+//! oracle examples DIR                 writes the example traces and what the lister must print of them
+//! oracle differential SEED SCALE RUNNER..   the port's program `cases`, run by RUNNER, against this module
 #![allow(dead_code, unexpected_cfgs)]
 
+mod differential;
+mod format;
+mod listing;
 mod core060 {
     pub mod cpu;
     pub mod timing_060;
@@ -11,7 +17,7 @@ mod core060 {
 
 use core060::cpu::CpuCore;
 use core060::timing_060::{classify_060_opcode, info_060, reg_masks_060};
-use std::io::{BufWriter, Result, Write};
+use std::io::{BufWriter, Read, Result, Write};
 
 const RTS: u32 = 0x4E75;
 
@@ -42,14 +48,43 @@ fn worked(out: &mut impl Write) -> Result<()> {
     Ok(())
 }
 
+fn differential(words: &[String]) -> ! {
+    let (Some(Ok(seed)), Some(Ok(scale))) = (words.first().map(|w| w.parse()), words.get(1).map(|w| w.parse())) else {
+        eprintln!("usage: oracle differential SEED SCALE RUNNER..");
+        std::process::exit(2);
+    };
+    match differential::run(&words[2..], seed, scale) {
+        Ok((passed, failed)) => {
+            println!("{passed} passed, {failed} failed");
+            std::process::exit(if failed == 0 { 0 } else { 1 });
+        }
+        Err(why) => {
+            eprintln!("oracle: {why}");
+            std::process::exit(1);
+        }
+    }
+}
+
 fn main() {
-    let asked = std::env::args().nth(1);
+    let words: Vec<String> = std::env::args().skip(1).collect();
+    let asked = words.first().cloned();
+    if asked.as_deref() == Some("differential") {
+        differential(&words[1..]);
+    }
+    let input = || -> Result<Vec<u8>> {
+        let mut bytes = Vec::new();
+        std::io::stdin().read_to_end(&mut bytes)?;
+        Ok(bytes)
+    };
     let mut out = BufWriter::new(std::io::stdout().lock());
     let done = match asked.as_deref() {
         Some("all_opcodes") => all_opcodes(&mut out),
         Some("worked") => worked(&mut out),
+        Some("cost_lister") => input().and_then(|s| out.write_all(listing::cost_lister(&s).as_bytes())),
+        Some("replay") => input().and_then(|s| out.write_all(listing::replay(&s).as_bytes())),
+        Some("examples") if words.len() == 2 => listing::examples(std::path::Path::new(&words[1])),
         _ => {
-            eprintln!("usage: oracle all_opcodes | worked");
+            eprintln!("usage: oracle all_opcodes | worked | cost_lister | replay | examples DIR | differential SEED SCALE RUNNER..");
             std::process::exit(2);
         }
     };

@@ -8,3 +8,4 @@ pub mod Reached
 pub mod Demand
 pub mod DeterminedWords
 pub mod DeterminedEvents
+pub mod Images

@@ -1,0 +1,8 @@
+pub mod Numbers
+pub mod Filling
+pub mod Writing
+pub mod Refusals
+pub mod Bits
+pub mod WrittenRead
+pub mod ReadWritten
+pub mod RoundTrip

@@ -1,0 +1,52 @@
+-- `image_read`: the state of an accepted image, and else a fresh one. An accepted image has 1,288 bytes.
+-- Assumes nothing.
+use mathlib.Core.Path.{_≡_, sym, _∙_}
+use mathlib.Core.List.{List}
+use Prim.Native.Nat.{ℕ}
+use native.Mathlib.Omega.{arith}
+use Rattle.outcome.specs.declared.Verdict.the-variants.{Accepted}
+use Rattle.image.specs.Entries.{judgedOf}
+use Rattle.image.proofs.Refusals.{image-judged, image-by}
+use borrow.Author.Needs.{needs}
+use Rattle.image.proofs.image_read.Statement.{statement}
+use Rattle.image.proofs.image_read.Tie as tie
+
+judged-requires : tie.Need-judged-requires
+judged-requires c κs = search needs
+
+enum-told : tie.Need-enum-told
+enum-told c = search needs
+
+state-at-requires : tie.Need-state-at-requires
+state-at-requires c κs =
+    let s : List ℕ = c .before .before .before .before .args .bytes .now in
+    let e : judgedOf s ≡ Accepted = sym (c .before .before .judged .ensures) ∙ c .enum-told .given .1 in
+    omega (arith, image-judged s Accepted .0 e .0)
+
+enum-told-2 : tie.Need-enum-told-2
+enum-told-2 c = search needs
+
+fresh-requires : tie.Need-fresh-requires
+fresh-requires c κs = search needs
+
+returns : tie.Need-returns
+returns c =
+    let j = c .before .before .before .judged in
+    image-by (c .before .before .before .before .before .args .bytes .now) (j .result) _ (c .state-at .result) (j .ensures) (c .before .enum-told .given .1) (c .state-at .ensures)
+
+returns-2 : tie.Need-returns-2
+returns-2 c =
+    let j = c .before .before .before .judged in
+    image-by (c .before .before .before .before .before .args .bytes .now) (j .result) _ (c .fresh .result) (j .ensures) (c .before .enum-told2 .given .1) (c .fresh .ensures)
+
+pub image-read-spec : {M : Type 1} → statement M
+image-read-spec =
+    tie.close
+    (tie.spec
+    judged-requires
+    enum-told
+    state-at-requires
+    enum-told-2
+    fresh-requires
+    returns
+    returns-2)

@@ -1,0 +1,32 @@
+-- Document 01, "Records and images": "little-endian", the lowest byte first. The Rust has none.
+--
+--   numberAt k s at   ==  the number that the k bytes of s from the place `at` on stand for   "A record is a 2-byte payload length, .. little-endian"
+--   bytesOf k n       ==  the k bytes of the number n                                         "Costs in bytes are little-endian"
+--   putAt s at bs     ==  the list s with the bytes bs from the place `at` on, all others as they were
+--   Below m s         ==  every number of the list s is below m: `Below 256 s` says that s is a list of bytes
+--   signedOf x        ==  the signed number with the 32 bits of x                             "raw 4 signed"
+--                         x itself below 2^31, and from there on x less 2^32
+use Prim.Native.Nat.{ℕ, zero, suc, _+_, _-_, _*_, _/_, _%_, _^_, _<_}
+use mathlib.Core.Bool.{cond}
+use mathlib.Core.List.{List, [], _∷_, _++_}
+use lib.IntN.{ℤ, pos, negsuc}
+use lib.Dec.{ltb}
+use lib.ListN.{length, getD, take, drop}
+
+unfoldable pub numberAt : ℕ → List ℕ → ℕ → ℕ
+numberAt zero s at = 0
+numberAt (suc k) s at = getD s at 0 + 256 * numberAt k s (at + 1)
+
+unfoldable pub bytesOf : ℕ → ℕ → List ℕ
+bytesOf zero n = []
+bytesOf (suc k) n = n % 256 ∷ bytesOf k (n / 256)
+
+unfoldable pub putAt : List ℕ → ℕ → List ℕ → List ℕ
+putAt s at bs = take at s ++ bs ++ drop (at + length bs) s
+
+abbrev pub Below : ℕ → List ℕ → Type 0
+Below m s = (i : ℕ) → getD s i 0 < m
+
+-- `negsuc n` is the library's -1 - n, so that `negsuc (2 ^ 32 - 1 - x)` is x less 2^32
+unfoldable pub signedOf : ℕ → ℤ
+signedOf x = cond (ltb x (2 ^ 31)) (pos x) (negsuc (2 ^ 32 - 1 - x))

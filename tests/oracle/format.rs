@@ -1,0 +1,183 @@
+//! Records, traces and images, read and written from document 01 alone: the independent reader that the port is held against.
+use crate::core060::cpu::{CACR_060_EBC, CpuCore, PCR_ESS};
+use crate::core060::timing_060::{BranchCache060, Oep060Timing, PendingHead060};
+
+pub const IMAGE: usize = 1288;
+
+#[derive(Clone, Copy, Debug, PartialEq)]
+pub struct Retirement {
+    pub op: u16,
+    pub flags: u16,
+    pub ppc: u32,
+    pub pc: u32,
+    pub raw: i32,
+}
+
+#[derive(Clone, Copy, Debug, PartialEq)]
+pub enum Event {
+    Retired(Retirement),
+    Break,
+    ClearAll,
+    ClearUser,
+}
+
+/// A refusal: its number and place.
+pub type Refused = (u32, usize);
+
+pub fn record(e: &Event) -> Vec<u8> {
+    let (kind, payload) = match e {
+        Event::Retired(r) => {
+            let mut p = Vec::new();
+            p.extend(r.op.to_le_bytes());
+            p.extend(r.flags.to_le_bytes());
+            p.extend(r.ppc.to_le_bytes());
+            p.extend(r.pc.to_le_bytes());
+            p.extend(r.raw.to_le_bytes());
+            (1u16, p)
+        }
+        Event::Break => (2, Vec::new()),
+        Event::ClearAll => (3, Vec::new()),
+        Event::ClearUser => (4, Vec::new()),
+    };
+    let mut bytes = Vec::new();
+    bytes.extend((payload.len() as u16).to_le_bytes());
+    bytes.extend(kind.to_le_bytes());
+    bytes.extend(payload);
+    bytes
+}
+
+fn u16_at(s: &[u8], at: usize) -> u16 {
+    u16::from_le_bytes([s[at], s[at + 1]])
+}
+
+fn u32_at(s: &[u8], at: usize) -> u32 {
+    u32::from_le_bytes([s[at], s[at + 1], s[at + 2], s[at + 3]])
+}
+
+/// The events of a trace, or the first refusal: 1; record by record 2 to 6; 7 after all records.
+pub fn read_trace(s: &[u8], room: usize) -> Result<Vec<Event>, Refused> {
+    if s.len() > 16_777_216 {
+        return Err((1, 0));
+    }
+    let mut events = Vec::new();
+    let mut at = 0;
+    while at < s.len() {
+        let left = s.len() - at;
+        if left < 4 {
+            return Err((2, at));
+        }
+        let (length, kind) = (u16_at(s, at) as usize, u16_at(s, at + 2));
+        let expected = match kind {
+            1 => 16,
+            2..=4 => 0,
+            _ => return Err((3, at)),
+        };
+        if length != expected {
+            return Err((4, at));
+        }
+        if left < 4 + expected {
+            return Err((5, at));
+        }
+        events.push(match kind {
+            1 => {
+                let flags = u16_at(s, at + 6);
+                if flags > 31 {
+                    return Err((6, at));
+                }
+                Event::Retired(Retirement {
+                    op: u16_at(s, at + 4),
+                    flags,
+                    ppc: u32_at(s, at + 8),
+                    pc: u32_at(s, at + 12),
+                    raw: u32_at(s, at + 16) as i32,
+                })
+            }
+            2 => Event::Break,
+            3 => Event::ClearAll,
+            _ => Event::ClearUser,
+        });
+        at += 4 + expected;
+    }
+    let retirements = events.iter().filter(|e| matches!(e, Event::Retired(_))).count();
+    if room < 4 * retirements {
+        return Err((7, s.len()));
+    }
+    Ok(events)
+}
+
+pub fn write_image(t: &Oep060Timing) -> Vec<u8> {
+    let (tags, state) = t.branch_cache.oracle_parts();
+    let mut bytes = vec![0x04, 0x05, 16, 0];
+    for tag in tags {
+        bytes.extend(tag.to_le_bytes());
+    }
+    bytes.extend(state);
+    match &t.pending_head {
+        None => bytes.extend([0, 0, 0, 0]),
+        Some(h) => {
+            bytes.push(1);
+            bytes.extend(h.def_mask.to_le_bytes());
+            bytes.push(h.defines_ccr as u8 | (h.accessed_mem as u8) << 1 | (h.head_cached as u8) << 2);
+        }
+    }
+    bytes
+}
+
+pub fn read_image(s: &[u8]) -> Result<Oep060Timing, Refused> {
+    if s.len() != IMAGE {
+        return Err((8, 0));
+    }
+    if u16_at(s, 0) != 1284 || u16_at(s, 2) != 16 {
+        return Err((9, 0));
+    }
+    let (open, defs, bits) = (s[1284], u16_at(s, 1285), s[1287]);
+    if open > 1 || bits > 7 || (open == 0 && (defs != 0 || bits != 0)) {
+        return Err((10, 1284));
+    }
+    let tags = (0..256).map(|i| u32_at(s, 4 + 4 * i)).collect();
+    let state = s[4 + 1024..4 + 1024 + 256].to_vec();
+    Ok(Oep060Timing {
+        branch_cache: BranchCache060::oracle_of(tags, state),
+        pending_head: (open == 1).then(|| PendingHead060 {
+            def_mask: defs,
+            defines_ccr: bits & 1 != 0,
+            accessed_mem: bits & 2 != 0,
+            head_cached: bits & 4 != 0,
+        }),
+    })
+}
+
+/// One event on the Rust module itself: the cost of a retirement.
+pub fn step(t: &mut Oep060Timing, e: &Event) -> Option<i32> {
+    match e {
+        Event::Retired(r) => {
+            let mut cpu = CpuCore {
+                ir: r.op as u32,
+                pc: r.pc,
+                ppc: r.ppc,
+                change_of_flow: r.flags & 1 != 0,
+                pcr: if r.flags & 4 != 0 { PCR_ESS } else { 0 },
+                cacr: if r.flags & 8 != 0 { CACR_060_EBC } else { 0 },
+                supervisor: r.flags & 16 != 0,
+                oep060: std::mem::take(t),
+            };
+            let cost = cpu.cycles_060(r.raw, r.flags & 2 != 0);
+            *t = cpu.oep060;
+            Some(cost)
+        }
+        Event::Break => {
+            let mut cpu = CpuCore { oep060: std::mem::take(t), ..CpuCore::default() };
+            cpu.break_060_pipeline();
+            *t = cpu.oep060;
+            None
+        }
+        Event::ClearAll => {
+            t.branch_cache.clear_all();
+            None
+        }
+        Event::ClearUser => {
+            t.branch_cache.clear_user();
+            None
+        }
+    }
+}

@@ -1,0 +1,141 @@
+//! What the cost lister and `replay` must print, from the independent reader and the Rust module; and the example traces.
+use crate::core060::timing_060::Oep060Timing;
+use crate::format::*;
+use std::fmt::Write as _;
+use std::path::Path;
+
+const LISTED: usize = 65_536;
+
+// The lister's lines, and the next state.
+fn listing(trace: &[u8], mut state: Oep060Timing) -> (String, Option<Oep060Timing>) {
+    let refused = |(n, p): Refused| (format!("refused {n} at {p}\n"), None);
+    if trace.len() > LISTED {
+        return refused((1, 0));
+    }
+    let events = match read_trace(trace, usize::MAX) {
+        Ok(events) => events,
+        Err(why) => return refused(why),
+    };
+    let mut text = "index opcode clocks\n".to_string();
+    let (mut count, mut total) = (0u64, 0u64);
+    for e in &events {
+        if let (Some(cost), Event::Retired(r)) = (step(&mut state, e), e) {
+            writeln!(text, "{count} {:04X} {cost}", r.op).unwrap();
+            count += 1;
+            total += cost as u64;
+        }
+    }
+    writeln!(text, "total {count} {total}").unwrap();
+    (text, Some(state))
+}
+
+pub fn cost_lister(input: &[u8]) -> String {
+    listing(input, Oep060Timing::default()).0
+}
+
+pub fn replay(input: &[u8]) -> String {
+    let state = match read_image(&input[..input.len().min(IMAGE)]) {
+        Ok(state) => state,
+        Err((n, p)) => return format!("image refused {n} at {p}\n"),
+    };
+    let (mut text, next) = listing(&input[IMAGE..], state);
+    if let Some(next) = next {
+        for line in write_image(&next).chunks(32) {
+            for b in line {
+                write!(text, "{b:02X}").unwrap();
+            }
+            text.push('\n');
+        }
+    }
+    text
+}
+
+fn retired(op: u16, flags: u16, ppc: u32, pc: u32, raw: i32) -> Event {
+    Event::Retired(Retirement { op, flags, ppc, pc, raw })
+}
+
+fn bytes(events: &[Event]) -> Vec<u8> {
+    events.iter().flat_map(record).collect()
+}
+
+// Document 01's worked trace.
+fn worked() -> Vec<Event> {
+    vec![
+        retired(0x7000, 0x1E, 0x1000, 0x1002, 4),
+        retired(0x7200, 0x1E, 0x1002, 0x1004, 4),
+        retired(0x60FE, 0x1F, 0x1004, 0x1004, 10),
+        retired(0x60FE, 0x1F, 0x1004, 0x1004, 10),
+    ]
+}
+
+// Two instructions in a row, the second of which joins the first or is kept from it by one dispatch rule, and a break between two tries.
+fn pairs() -> Vec<Event> {
+    let mut events = Vec::new();
+    let mut at = 0x1000;
+    for (head, follower, flags, follower_flags) in [
+        (0x7000, 0x7200, 0x1E, 0x1E), // joins: D0, then D1
+        (0x7000, 0x7200, 0x1A, 0x1A), // ESS off
+        (0x7000, 0x7200, 0x1C, 0x1E), // the head not cached
+        (0x7000, 0x7200, 0x1E, 0x1C), // the follower not cached
+        (0x7000, 0x4E71, 0x1E, 0x1E), // NOP: not class 0
+        (0x7000, 0x3230, 0x1E, 0x1E), // an indexed operand
+        (0x7000, 0xD200, 0x1E, 0x1E), // ADD D0,D1 uses what the head defines
+        (0x7000, 0x57C1, 0x1E, 0x1E), // SEQ D1 uses the CCR late, behind a definer
+        (0x3010, 0x3211, 0x1E, 0x1E), // memory behind memory
+    ] {
+        events.push(retired(head, flags, at, at + 2, 4));
+        events.push(retired(follower, follower_flags, at + 2, at + 4, 4));
+        events.push(Event::Break);
+        at += 4;
+    }
+    events
+}
+
+// A branch that is static, misses, is predicted rightly and wrongly, alone and onto an open window; then DBcc.
+fn branches() -> Vec<Event> {
+    let head = |at| retired(0x7000, 0x1E, at, at + 2, 4);
+    let bne = |flags, pc| retired(0x66FC, flags, 0x2002, pc, 10);
+    vec![
+        bne(0x17, 0x2000), // EBC off: static, taken
+        bne(0x16, 0x2004), // static, not taken
+        bne(0x1E, 0x2004), // a miss, not taken: nothing is allocated
+        bne(0x1F, 0x2000), // a miss, taken
+        bne(0x1F, 0x2000), // predicted, and no window to fold onto
+        head(0x2000),
+        bne(0x1F, 0x2000), // predicted, folded
+        head(0x2000),
+        bne(0x1E, 0x2004), // predicted taken, and it was not
+        Event::ClearUser,
+        bne(0x1F, 0x2000), // a supervisor's entry stays
+        Event::ClearAll,
+        bne(0x1F, 0x2000), // a miss again
+        retired(0x51C8, 0x16, 0x3000, 0x2FF0, 10), // DBcc, static, taken
+        retired(0x51C8, 0x16, 0x3000, 0x3004, 14), // DBcc, static, expired
+        retired(0x4E75, 0x1F, 0x3004, 0x2000, 24), // RTS: a refill
+    ]
+}
+
+fn damaged(change: impl Fn(&mut Vec<u8>)) -> Vec<u8> {
+    let mut s = bytes(&worked());
+    change(&mut s);
+    s
+}
+
+pub fn examples(to: &Path) -> std::io::Result<()> {
+    let all: Vec<(&str, Vec<u8>)> = vec![
+        ("worked", bytes(&worked())),
+        ("empty", Vec::new()),
+        ("pairs", bytes(&pairs())),
+        ("branches", bytes(&branches())),
+        ("refused-2", damaged(|s| s.extend([0, 0, 2]))),
+        ("refused-3", damaged(|s| s[42] = 5)),
+        ("refused-4", damaged(|s| s[20] = 15)),
+        ("refused-5", damaged(|s| s.truncate(79))),
+        ("refused-6", damaged(|s| s[26] = 0x3E)),
+    ];
+    for (name, trace) in all {
+        std::fs::write(to.join(format!("{name}.txt")), cost_lister(&trace))?;
+        std::fs::write(to.join(format!("{name}.trace")), trace)?;
+    }
+    Ok(())
+}
