@@ -275,6 +275,90 @@ pub fn cases(rng: &mut Random, scale: u64) -> Vec<Case> {
     all
 }
 
+// The cases at the limits of each refusal, written out.
+fn limits() -> Vec<Case> {
+    let retired = |op, flags, ppc, pc, raw| Event::Retired(Retirement { op, flags, ppc, pc, raw });
+    let worked = [
+        retired(0x7000, 0x1E, 0x1000, 0x1002, 4),
+        retired(0x7200, 0x1E, 0x1002, 0x1004, 4),
+        retired(0x60FE, 0x1F, 0x1004, 0x1004, 10),
+        retired(0x60FE, 0x1F, 0x1004, 0x1004, 10),
+        Event::Break,
+        Event::ClearAll,
+        Event::ClearUser,
+    ];
+    let good: Vec<u8> = worked.iter().flat_map(record).collect();
+    let trace = |bytes: Vec<u8>, room| Case { what: TRACE, dirty: false, room, image: Vec::new(), bytes };
+    let mut all = vec![trace(Vec::new(), 0), trace(Vec::new(), 5), trace(good.clone(), 16), trace(good.clone(), 20), trace(good.clone(), 15), trace(good.clone(), 0)];
+    let mut changed = |change: &dyn Fn(&mut Vec<u8>)| {
+        let mut bytes = good.clone();
+        change(&mut bytes);
+        all.push(trace(bytes, 16));
+    };
+    for left in 1..4 {
+        changed(&|s| s.truncate(80 + left));
+    }
+    for kind in [0, 5, 16, 0x0101] {
+        changed(&|s| s[82..84].copy_from_slice(&u16::to_le_bytes(kind)));
+    }
+    for (at, length) in [(20, 15), (20, 17), (80, 1), (84, 1), (88, 0xFFFF)] {
+        changed(&|s| s[at..at + 2].copy_from_slice(&u16::to_le_bytes(length)));
+    }
+    changed(&|s| s.truncate(79));
+    changed(&|s| s.truncate(61));
+    for flags in [0x20, 0x8000, 0xFFFF, 0x1F] {
+        changed(&|s| s[26..28].copy_from_slice(&u16::to_le_bytes(flags)));
+    }
+    let mut rng = Random::new(1);
+    let open = loop {
+        let s = image(&mut rng);
+        if s[1284] == 1 {
+            break s;
+        }
+    };
+    let shut = loop {
+        let s = image(&mut rng);
+        if s[1284] == 0 {
+            break s;
+        }
+    };
+    let read = |bytes: Vec<u8>| Case { what: READ, dirty: false, room: 0, image: Vec::new(), bytes };
+    all.extend([read(open.clone()), read(shut.clone()), read(Vec::new()), read(open[..1287].to_vec()), read([&open[..], &[0]].concat())]);
+    for (base, at, byte) in [(&open, 0, 5), (&open, 1, 6), (&open, 2, 17), (&open, 3, 1), (&open, 1284, 2), (&open, 1284, 255), (&open, 1287, 8), (&open, 1287, 7), (&shut, 1285, 1), (&shut, 1286, 1), (&shut, 1287, 1), (&shut, 1287, 8)] {
+        let mut s = base.clone();
+        s[at] = byte;
+        all.push(read(s));
+    }
+    for room in [0, 1287, 1288, 1289] {
+        for dirty in [false, true] {
+            all.push(Case { what: WRITE, dirty, room, image: open.clone(), bytes: Vec::new() });
+        }
+    }
+    all.push(Case { what: TRACE, dirty: true, room: 16, image: open.clone(), bytes: good.clone() });
+    all.push(Case { what: TRACE, dirty: true, room: 3, image: shut.clone(), bytes: good.clone() });
+    all.push(Case { what: TRACE, dirty: true, room: 0, image: shut, bytes: Vec::new() });
+    all
+}
+
+fn sample() -> Vec<Case> {
+    let mut all = limits();
+    all.extend(cases(&mut Random::new(68060), 1));
+    all
+}
+
+/// The cases that the gate replays, and what the port must answer.
+pub fn sample_input() -> Vec<u8> {
+    let mut bytes = Vec::new();
+    for c in sample() {
+        c.encode(&mut bytes);
+    }
+    bytes
+}
+
+pub fn sample_answers() -> String {
+    sample().iter().map(|c| c.expected() + "\n").collect()
+}
+
 // ---- the run
 
 fn answers(runner: &[String], cases: &[Case]) -> Result<Vec<String>, String> {
@@ -338,7 +422,8 @@ fn shrunk(runner: &[String], case: &Case) -> Case {
 
 pub fn run(runner: &[String], seed: u64, scale: u64) -> Result<(usize, usize), String> {
     let mut rng = Random::new(seed);
-    let all = cases(&mut rng, scale);
+    let mut all = limits();
+    all.extend(cases(&mut rng, scale));
     let retired: usize = all.iter().filter(|c| c.what == TRACE).map(|c| read_trace(&c.bytes, c.room).map_or(0, |e| retirements(&e))).sum();
     let count = |w: u8| all.iter().filter(|c| c.what == w).count();
     println!("{} traces with {retired} retirements, {} images read, {} images written", count(TRACE), count(READ), count(WRITE));

@@ -9,3 +9,5 @@ pub mod Demand
 pub mod DeterminedWords
 pub mod DeterminedEvents
 pub mod Images
+pub mod Traces
+pub mod DeterminedRuns

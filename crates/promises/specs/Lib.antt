@@ -4,11 +4,13 @@
 --   Worked        ==  the worked instructions that are proved
 --   Retirements   ==  what holds of every retirement, break and clear
 --   Demand3       ==  demand 3: time moves
+--   Traces        ==  what holds of every run of a trace
 --   Images        ==  what holds of every state image
 --   Determined    ==  one answer at each input
 pub mod Opcodes
 pub mod Worked
 pub mod Retirements
 pub mod Demand3
+pub mod Traces
 pub mod Images
 pub mod Determined

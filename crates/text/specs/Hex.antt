@@ -2,6 +2,7 @@
 --
 --   hexDigit n   ==  the character of a number below 16: '0' to '9', 'A' to 'F'
 --   hexOf w      ==  the four characters of a 16-bit word, the highest digit first
+--   hexByteOf b  ==  the two characters of a byte, the highest digit first
 use Prim.Native.Nat.{ℕ, _+_, _/_, _%_}
 use mathlib.Core.Bool.{cond}
 use mathlib.Core.List.{List, [], _∷_}
@@ -12,3 +13,6 @@ hexDigit n = cond (ltb n 10) (48 + n) (55 + n)
 
 abbrev pub hexOf : ℕ → List ℕ
 hexOf w = hexDigit (w / 4096 % 16) ∷ hexDigit (w / 256 % 16) ∷ hexDigit (w / 16 % 16) ∷ hexDigit (w % 16) ∷ []
+
+abbrev pub hexByteOf : ℕ → List ℕ
+hexByteOf b = hexDigit (b / 16 % 16) ∷ hexDigit (b % 16) ∷ []

@@ -1,7 +1,10 @@
 // Numbers as the tools print them.
 ghost use mathlib.Core.Path.{_≡_};
-ghost use Prim.Native.Nat.{_%_};
-ghost use Rattle.text.specs.Hex.{hexDigit, hexOf};
+ghost use Prim.Native.Nat.{_+_, _%_, _≤_};
+ghost use lib.ListN.{length};
+ghost use Rattle.text.specs.Hex.{hexDigit, hexOf, hexByteOf};
+ghost use Rattle.text.specs.Decimal.{decimalOf};
+ghost use Rattle.text.specs.Written.{written, writtenOf};
 
 // The upper-case hexadecimal digit of the low four bits.
 pub fn hex_digit(n: u16) -> u8
@@ -24,4 +27,61 @@ pub fn hex4(word: u16) -> [u8; 4]
     let d1 = hex_digit(word / 16);
     let d0 = hex_digit(word);
     [d3, d2, d1, d0]
+}
+
+// The two upper-case hexadecimal digits of a byte.
+pub fn hex2(byte: u8) -> [u8; 2]
+    ensures { λ r. ⌜ r ≡ hexByteOf byte ⌝ }
+{
+    let word = byte as u16;
+    let d1 = hex_digit(word / 16);
+    let d0 = hex_digit(word);
+    [d1, d0]
+}
+
+// Puts bytes at a place, and answers the place behind them.
+pub fn put_bytes(out: &mut [u8], at: usize, s: &[u8]) -> usize
+    // There is room: only our crates call this, each where the room is known.
+    requires { ⌜ at + length (now s) ≤ length (now out) ⌝ }
+    ensures { λ r. ⌜ written r (now (out .exit)) ≡ writtenOf (now (out .entry)) at (now (s .entry)) ⌝ }
+{
+    let mut i: usize = 0;
+    while i < s.len() {
+        out[at + i] = s[i];
+        i += 1;
+    }
+    at + i
+}
+
+pub fn put_hex4(out: &mut [u8], at: usize, word: u16) -> usize
+    // There is room: only our crates call this, each where the room is known.
+    requires { ⌜ at + 4 ≤ length (now out) ⌝ }
+    ensures { λ r. ⌜ written r (now (out .exit)) ≡ writtenOf (now (out .entry)) at (hexOf word) ⌝ }
+{
+    let digits = hex4(word);
+    put_bytes(out, at, &digits)
+}
+
+pub fn put_hex2(out: &mut [u8], at: usize, byte: u8) -> usize
+    // There is room: only our crates call this, each where the room is known.
+    requires { ⌜ at + 2 ≤ length (now out) ⌝ }
+    ensures { λ r. ⌜ written r (now (out .exit)) ≡ writtenOf (now (out .entry)) at (hexByteOf byte) ⌝ }
+{
+    let digits = hex2(byte);
+    put_bytes(out, at, &digits)
+}
+
+// The digits before the last are those of a tenth.
+pub fn put_decimal(out: &mut [u8], at: usize, n: u64) -> usize
+    // There is room: only our crates call this, each where the room is known.
+    requires { ⌜ at + length (decimalOf n) ≤ length (now out) ⌝ }
+    ensures { λ r. ⌜ written r (now (out .exit)) ≡ writtenOf (now (out .entry)) at (decimalOf n) ⌝ }
+{
+    if n < 10 {
+        out[at] = 48 + n as u8;
+        return at + 1;
+    }
+    let next = put_decimal(out, at, n / 10);
+    out[next] = 48 + (n % 10) as u8;
+    next + 1
 }

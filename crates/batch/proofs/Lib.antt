@@ -1,0 +1,5 @@
+pub mod Refusals
+pub mod Run
+pub mod Loop
+pub mod Again
+pub mod Locals

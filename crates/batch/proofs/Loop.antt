@@ -1,0 +1,145 @@
+-- What the loop of the batch carries, with no machine in it: of the first m records, what is left to run, run from here, gives what the whole gives.
+-- Assumes nothing.
+--     Now                what is carried: the place i, the cache's arrays, window and total, the costs, and what is known of them. It is the loop's variant too, by the number of records left
+--     onward, all-run    one record further; and what is known once none is left
+use mathlib.Core.Path.{_≡_, refl, sym, _∙_, ap, subst}
+use Prim.Native.Nat.{ℕ, suc, _+_, _*_, _-_, _<_, _≤_, zero-le}
+use native.Mathlib.Omega.{arith}
+use native.Mathlib.Nat.{lt-of-lt-of-le}
+use mathlib.Core.Bool.{false}
+use mathlib.Core.List.{_∷_, _++_, List, append-nil}
+use mathlib.Core.WellFounded.{WellFounded, InvImage·wf}
+use lib.ListN.{length, getD, take, drop, take-append-drop}
+use lib.Seq.{drop-length, drop-cons, drop-set-lt, take-suc-set, append-snoc, length-take-le, getD-take}
+use lib.WfN.{Nat·lt-wfRel}
+use lib.IntN.{pos}
+use denote.Laws.{Is}
+use denote.Struct.Laws as LL
+use mir.Val.{Val}
+use Rattle.step.specs.declared.Retirement.{Retirement}
+use Rattle.step.specs.declared.Oep060Timing.{Oep060Timing}
+use Rattle.step.specs.Events.{total as sum}
+use Rattle.step.specs.Step.{timingAt, seenOf, steppedOf}
+use Rattle.batch.specs.declared.Carried.{Carried}
+use Rattle.batch.specs.Turns.{Reached, reached, turnedOf, beginOf}
+use Rattle.batch.proofs.Run.{endOf, paidOf, end-none, paid-none, end-first, paid-first}
+use Rattle.batch.proofs.Carried as C
+use Rattle.batch.proofs.Carried.Laws as C′
+
+-- a record that stands for what lies past the end of a list
+abbrev pub none : Retirement
+none = record { op = 0; controls = record { flowed = false; cached = false; ess = false; ebc = false; supervisor = false; ppc = 0; pc = 0; raw = record { 0 = pos 0 } } }
+
+abbrev pub cvals : Carried → List Val
+cvals = LL.vals C.the-type C′.the-laws
+
+pub record Now (m : ℕ) (rs : List Retirement) (s : Oep060Timing) (ps : List ℕ) : Type 0 where
+  pub i : ℕ
+  pub ts : List ℕ
+  pub bs : List ℕ
+  pub c : Carried
+  pub cs : List ℕ
+  pub bound : i ≤ m
+  pub len : length cs ≡ length ps
+  pub after : endOf (timingAt ts bs (c .window)) (drop i (take m rs)) ≡ endOf s (take m rs)
+  pub cost : take i cs ++ paidOf (timingAt ts bs (c .window)) (drop i (take m rs)) ≡ paidOf s (take m rs)
+  pub total : c .total + sum (paidOf (timingAt ts bs (c .window)) (drop i (take m rs))) ≡ sum (paidOf s (take m rs))
+  pub past : drop m cs ≡ drop m ps
+  pub small : c .total ≤ i * 4294967295
+  pub is : Is C.the-row c (cvals c)
+
+no-more-left : (i n : ℕ) → i ≤ n → n ≤ i → i ≡ n
+no-more-left i n l k = omega (arith, l, k)
+
+pub regroup : (a b c : ℕ) → a + b + c ≡ a + (b + c)
+regroup a b c = omega arith
+
+pub from-none : (a : ℕ) → 0 + a ≡ a
+from-none a = omega arith
+
+nothing-added : (a : ℕ) → a + 0 ≡ a
+nothing-added a = omega arith
+
+pub one-more : (i : ℕ) → i + 1 ≡ suc i
+one-more i = omega arith
+
+pub is-fewer : (n i : ℕ) → i < n → n - suc i < n - i
+is-fewer n i l = omega (arith, l)
+
+-- before the first record
+abbrev pub at-start : (m : ℕ) (rs : List Retirement) (t : Oep060Timing) (ps : List ℕ) → Is C.the-row (beginOf t) (cvals (beginOf t)) → Now m rs (seenOf t) ps
+at-start m rs t ps is = record { i = 0; ts = t .cache .tags; bs = t .cache .state; c = beginOf t; cs = ps; bound = zero-le; len = refl; after = refl; cost = refl; total = from-none _; past = refl; small = zero-le; is = is }
+
+module _ (m : ℕ) (rs : List Retirement) (s : Oep060Timing) (ps : List ℕ) where
+  abbrev left : Now m rs s ps → ℕ
+  left t = m - t .i
+
+  abbrev pub fewer : Now m rs s ps → Now m rs s ps → Type 0
+  fewer t u = left t < left u
+
+  pub fewer-wf : WellFounded fewer
+  fewer-wf = InvImage·wf left (Nat·lt-wfRel .wf)
+
+  -- the state so far
+  abbrev pub so-far : Now m rs s ps → Oep060Timing
+  so-far t = timingAt (t .ts) (t .bs) (t .c .window)
+
+  -- the record to run, and what `turn` ensures of it
+  abbrev pub rec : Now m rs s ps → Retirement
+  rec t = getD rs (t .i) none
+
+  abbrev pub Turned : Now m rs s ps → Carried → List ℕ → List ℕ → List ℕ → Type 0
+  Turned t c ts bs zs = (reached ts bs c zs ≡ turnedOf (reached (t .ts) (t .bs) (t .c) (t .cs)) (t .i) (rec t)) × (c .total ≤ (t .i + 1) * 4294967295)
+
+  module _ (here : m ≤ length rs) (fits : m ≤ length ps) where
+    -- a record is there, and so is its cost's place
+    pub within : (t : Now m rs s ps) → t .i < m → t .i < length (t .cs)
+    within t l = subst (λ (k : ℕ). t .i < k) (sym (t .len)) (lt-of-lt-of-le l fits)
+
+    -- what is left begins with the record
+    pub begins-with : (i : ℕ) → i < m → drop i (take m rs) ≡ getD rs i none ∷ drop (suc i) (take m rs)
+    begins-with i l = drop-cons (take m rs) i none (subst (λ (k : ℕ). i < k) (sym (length-take-le m rs here)) l) ∙ ap (λ (r : Retirement). r ∷ drop (suc i) (take m rs)) (getD-take m rs i none l)
+
+    -- a record is run
+    abbrev pub onward : (t : Now m rs s ps) → t .i < m → (c : Carried) (ts bs zs : List ℕ) → Turned t c ts bs zs → length zs ≡ length (t .cs) → Is C.the-row c (cvals c) → Now m rs s ps
+    onward t l c ts bs zs e k is =
+        let x = rec t in
+        let paid = steppedOf (so-far t) x .cost .0 in
+        let rest = drop (suc (t .i)) (take m rs) in
+        let later = paidOf (steppedOf (so-far t) x .timing) rest in
+        let state = ap (λ (p : Reached). p .timing) (e .0) in
+        let places = ap (λ (p : Reached). p .places) (e .0) in
+        let back = sym (begins-with (t .i) l) in
+        record {
+          i = suc (t .i);
+          ts = ts;
+          bs = bs;
+          c = c;
+          cs = zs;
+          bound = l;
+          len = k ∙ t .len;
+          after = ap (λ (u : Oep060Timing). endOf u rest) state ∙ sym (end-first (so-far t) x rest) ∙ ap (λ (rs : List Retirement). endOf (so-far t) rs) back ∙ t .after;
+          cost = ap (λ (u : Oep060Timing). take (suc (t .i)) zs ++ paidOf u rest) state ∙ ap (λ (cs : List ℕ). take (suc (t .i)) cs ++ later) places
+              ∙ ap (λ (cs : List ℕ). cs ++ later) (take-suc-set (t .cs) (t .i) paid (within t l)) ∙ append-snoc (take (t .i) (t .cs)) paid later
+              ∙ ap (λ (cs : List ℕ). take (t .i) (t .cs) ++ cs) (sym (paid-first (so-far t) x rest))
+              ∙ ap (λ (rs : List Retirement). take (t .i) (t .cs) ++ paidOf (so-far t) rs) back ∙ t .cost;
+          total = ap (λ (u : Oep060Timing). c .total + sum (paidOf u rest)) state ∙ ap (λ (n : ℕ). n + sum later) (ap (λ (p : Reached). p .total) (e .0)) ∙ regroup (t .c .total) paid (sum later)
+              ∙ ap (λ (cs : List ℕ). t .c .total + sum cs) (sym (paid-first (so-far t) x rest))
+              ∙ ap (λ (rs : List Retirement). t .c .total + sum (paidOf (so-far t) rs)) back ∙ t .total;
+          past = ap (λ (cs : List ℕ). drop m cs) places ∙ drop-set-lt m (t .cs) (t .i) paid l ∙ t .past;
+          small = subst (λ (j : ℕ). c .total ≤ j * 4294967295) (one-more (t .i)) (e .1);
+          is = is;
+        }
+
+    -- no record is left, and none was run twice: i is the count
+    pub all-run : (t : Now m rs s ps) → m ≤ t .i → (so-far t ≡ endOf s (take m rs)) × (t .c .total ≡ sum (paidOf s (take m rs))) × (t .cs ≡ paidOf s (take m rs) ++ drop m ps)
+    all-run t l =
+        let e = no-more-left (t .i) m (t .bound) l in
+        let none-left = ap (λ (j : ℕ). drop j (take m rs)) (e ∙ sym (length-take-le m rs here)) ∙ drop-length (take m rs) in
+        let none-paid = ap (λ (rs : List Retirement). paidOf (so-far t) rs) none-left ∙ paid-none (so-far t) in (
+          sym (end-none (so-far t)) ∙ ap (λ (rs : List Retirement). endOf (so-far t) rs) (sym none-left) ∙ t .after,
+          sym (nothing-added (t .c .total)) ∙ ap (λ (cs : List ℕ). t .c .total + sum cs) (sym none-paid) ∙ t .total,
+          sym (take-append-drop m (t .cs))
+              ∙ ap (λ (cs : List ℕ). cs ++ drop m (t .cs)) (ap (λ (j : ℕ). take j (t .cs)) (sym e) ∙ sym (append-nil (take (t .i) (t .cs))) ∙ ap (λ (cs : List ℕ). take (t .i) (t .cs) ++ cs) (sym none-paid) ∙ t .cost)
+              ∙ ap (λ (cs : List ℕ). paidOf s (take m rs) ++ cs) (t .past),
+        )

@@ -1,0 +1,40 @@
+-- "Each number is given then and only then": refusal 1 for over 1,048,576 records, else refusal 7 for under one place a record, else none. By the two tests of `judgeOf`.
+-- Assumes nothing.
+use mathlib.Core.Path.{_≡_, refl, ap, _∙_}
+use Prim.Native.Nat.{ℕ}
+use mathlib.Core.Bool.{Bool, true, false, not, cond, _&&_}
+use mathlib.Core.List.{List}
+use lib.Dec.{ltb}
+use lib.ListN.{length}
+use Rattle.step.specs.declared.Retirement.{Retirement}
+use Rattle.step.specs.declared.Oep060Timing.{Oep060Timing}
+use Rattle.outcome.specs.declared.Refusal.the-variants.{Oversized, Room}
+use Rattle.outcome.specs.declared.Verdict.{Verdict}
+use Rattle.outcome.specs.declared.Verdict.the-variants.{Accepted, Refused}
+use Rattle.batch.specs.Batch.{judgeOf, outcomeBy, batchOf}
+use Rattle.batch.specs.Given.{isAccepted, gives}
+
+module _ (rs : List Retirement) (ps : List ℕ) (t : Oep060Timing) where
+  verdict-is : (v : Verdict) → outcomeBy v rs ps t .ran .verdict ≡ v
+  verdict-is Accepted = refl
+  verdict-is (Refused refusal) = refl
+
+  -- what holds of each of the three verdicts, where the two tests come out so, holds of the batch's
+  by-tests : (f : Verdict → Bool) (g : Bool → Bool → Bool) → ((short : Bool) → f (Refused Oversized) ≡ g true short) → f (Refused (Room 0)) ≡ g false true → f Accepted ≡ g false false
+      → f (batchOf rs ps t .ran .verdict) ≡ g (ltb 1048576 (length rs)) (ltb (length ps) (length rs))
+  unfolding judgeOf batchOf
+  by-tests f g over short taken = ap f (verdict-is (judgeOf (length rs) (length ps))) ∙ go (ltb 1048576 (length rs)) (ltb (length ps) (length rs))
+    where
+      go : (o u : Bool) → f (cond o (Refused Oversized) (cond u (Refused (Room 0)) Accepted)) ≡ g o u
+      go true u = over u
+      go false true = short
+      go false false = taken
+
+  pub batch-gives-1 : gives 1 0 (batchOf rs ps t .ran .verdict) ≡ ltb 1048576 (length rs)
+  batch-gives-1 = by-tests (gives 1 0) (λ over short. over) (λ short. refl) refl refl
+
+  pub batch-gives-7 : gives 7 0 (batchOf rs ps t .ran .verdict) ≡ (not (ltb 1048576 (length rs)) && ltb (length ps) (length rs))
+  batch-gives-7 = by-tests (gives 7 0) (λ over short. not over && short) (λ short. refl) refl refl
+
+  pub batch-accepts : isAccepted (batchOf rs ps t .ran .verdict) ≡ (not (ltb 1048576 (length rs)) && not (ltb (length ps) (length rs)))
+  batch-accepts = by-tests isAccepted (λ over short. not over && not short) (λ short. refl) refl refl

@@ -1,0 +1,60 @@
+-- What the loop of the batch carries, with no machine in it: record after record, the state, the total and the costs go the way that `costs` and `finally` say.
+-- Assumes nothing.
+use mathlib.Core.Path.{_≡_, refl, sym, ap, subst}
+use Prim.Native.Nat.{ℕ, _≤_, zero-le}
+use native.Mathlib.Nat.{le-refl}
+use mathlib.Core.Bool.{Bool, true, false, not, cond}
+use mathlib.Core.List.{[], _∷_, _++_, List}
+use lib.ListN.{length, take, drop}
+use lib.Seq.{take-length}
+use lib.Dec.{T, ltb, nltb→le}
+use Rattle.step.specs.declared.Retirement.{Retirement}
+use Rattle.step.specs.declared.Oep060Timing.{Oep060Timing}
+use Rattle.step.specs.Events.{retirements, finally, costs, total}
+use Rattle.step.specs.Crate.{crateBoard}
+use Rattle.step.specs.Step.{stateOf, timingOf, seenOf, steppedBy, steppedOf}
+use Rattle.outcome.specs.declared.Verdict.{Verdict}
+use Rattle.outcome.specs.declared.Verdict.the-variants.{Accepted, Refused}
+use Rattle.outcome.specs.declared.Refusal.the-variants.{Oversized, Room}
+use Rattle.batch.specs.Batch.{judgeOf, outcome, eventsOf, outcomeBy}
+use Rattle.batch.specs.Turns.{runsBy}
+
+-- the state after the records, and the cost of each
+abbrev pub endOf : Oep060Timing → List Retirement → Oep060Timing
+endOf t rs = timingOf (finally crateBoard (stateOf t) (eventsOf rs))
+
+abbrev pub paidOf : Oep060Timing → List Retirement → List ℕ
+paidOf t rs = costs crateBoard (stateOf t) (eventsOf rs)
+
+pub end-none : (t : Oep060Timing) → endOf t [] ≡ t
+unfolding finally
+end-none t = refl
+
+pub paid-none : (t : Oep060Timing) → paidOf t [] ≡ []
+unfolding retirements
+paid-none t = refl
+
+pub end-first : (t : Oep060Timing) (r : Retirement) (rs : List Retirement) → endOf t (r ∷ rs) ≡ endOf (steppedOf t r .timing) rs
+unfolding finally steppedBy
+end-first t r rs = refl
+
+pub paid-first : (t : Oep060Timing) (r : Retirement) (rs : List Retirement) → paidOf t (r ∷ rs) ≡ steppedOf t r .cost .0 ∷ paidOf (steppedOf t r .timing) rs
+unfolding retirements steppedBy
+paid-first t r rs = refl
+
+-- a batch runs no more records than there are, than there are places, and than are allowed
+runs-by : (n k : ℕ) (p q : Bool) → ltb 1048576 n ≡ p → ltb k n ≡ q → let m = runsBy (cond p (Refused Oversized) (cond q (Refused (Room 0)) Accepted)) n in (m ≤ n) × (m ≤ k) × (m ≤ 1048576)
+runs-by n k true q e f = (zero-le, zero-le, zero-le)
+runs-by n k false true e f = (zero-le, zero-le, zero-le)
+runs-by n k false false e f = (le-refl n, nltb→le k n (subst (λ (b : Bool). T (not b)) (sym f) tt), nltb→le 1048576 n (subst (λ (b : Bool). T (not b)) (sym e) tt))
+
+pub runs-within : (n k : ℕ) → let m = runsBy (judgeOf n k) n in (m ≤ n) × (m ≤ k) × (m ≤ 1048576)
+unfolding judgeOf
+runs-within n k = runs-by n k (ltb 1048576 n) (ltb k n) refl refl
+
+-- what the records that are run come to is what the definition says, refused or not
+pub ends-by : (v : Verdict) (rs : List Retirement) (ps : List ℕ) (t : Oep060Timing) → let go = take (runsBy v (length rs)) rs in
+    outcome (record { verdict = v; count = runsBy v (length rs); total = total (paidOf (seenOf t) go); timing = endOf (seenOf t) go }) (paidOf (seenOf t) go ++ drop (runsBy v (length rs)) ps) ≡ outcomeBy v rs ps t
+unfolding finally retirements
+ends-by Accepted rs ps t = ap (λ (go : List Retirement). outcome (record { verdict = Accepted; count = length rs; total = total (paidOf (seenOf t) go); timing = endOf (seenOf t) go }) (paidOf (seenOf t) go ++ drop (length rs) ps)) (take-length rs)
+ends-by (Refused refusal) rs ps t = refl

@@ -1,0 +1,47 @@
+-- The promise of each public function of part 6 of document 01, as the checker reads it, allows one answer at each input, lent bytes included.
+-- Assumes nothing.
+use mathlib.Core.Path.{sym, _∙_}
+use contract.Lifetimes
+use denote.Ref.{now}
+use Rattle.trace.specs.Run as run
+use Rattle.image.specs.Entries as image
+use Rattle.promises.specs.Determined.{Determined, result}
+use Rattle.little_endian.proofs.u16_at.Reads as u16-at
+use Rattle.little_endian.proofs.u32_at.Reads as u32-at
+use Rattle.little_endian.proofs.i32_of.Reads as i32-of
+use Rattle.little_endian.proofs.put_u16.Reads as put-u16
+use Rattle.little_endian.proofs.put_u32.Reads as put-u32
+use Rattle.trace.proofs.read_record.Reads as read-record
+use Rattle.trace.proofs.run_trace.Reads as run-trace
+use Rattle.image.proofs.image_write.Reads as image-write
+use Rattle.image.proofs.image_read.Reads as image-read
+
+module _ (κs : Lifetimes.Lfts 0) where
+  pub i32-of-determined : Determined result (i32-of.Post κs)
+  i32-of-determined i r r′ x x′ p q = p ∙ sym q
+
+module _ (κs : Lifetimes.Lfts 1) where
+  pub u16-at-determined : Determined result (u16-at.Post κs)
+  u16-at-determined i r r′ x x′ p q = p ∙ sym q
+
+  pub u32-at-determined : Determined result (u32-at.Post κs)
+  u32-at-determined i r r′ x x′ p q = p ∙ sym q
+
+  pub put-u16-determined : Determined (λ r x. now (x .0)) (put-u16.Post κs)
+  put-u16-determined i r r′ x x′ p q = p ∙ sym q
+
+  pub put-u32-determined : Determined (λ r x. now (x .0)) (put-u32.Post κs)
+  put-u32-determined i r r′ x x′ p q = p ∙ sym q
+
+  pub read-record-determined : Determined result (read-record.Post κs)
+  read-record-determined i r r′ x x′ p q = p ∙ sym q
+
+  pub image-write-determined : Determined (λ r x. image.outcome r (now (x .1 .0))) (image-write.Post κs)
+  image-write-determined i r r′ x x′ p q = p ∙ sym q
+
+  pub image-read-determined : Determined result (image-read.Post κs)
+  image-read-determined i r r′ x x′ p q = p ∙ sym q
+
+module _ (κs : Lifetimes.Lfts 2) where
+  pub run-trace-determined : Determined (λ r x. run.outcome r (now (x .1 .0))) (run-trace.Post κs)
+  run-trace-determined i r r′ x x′ p q = p ∙ sym q

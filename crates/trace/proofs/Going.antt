@@ -1,0 +1,112 @@
+-- A run that has come to a place: what is left of the trace, run from here, gives the outcome of the whole.
+-- Assumes nothing.
+use Prim.Native.Nat.{ℕ, _+_, _-_, _*_, _^_, _≤_, _<_}
+use mathlib.Core.Path.{_≡_, refl, sym, ap, subst, _∙_}
+use mathlib.Core.List.{List, [], _∷_}
+use native.Mathlib.Nat.{add-zero}
+use native.Mathlib.Omega.{arith}
+use lib.ListN.{length}
+use Rattle.little_endian.specs.Numbers.{bytesOf, putAt}
+use Rattle.little_endian.proofs.Numbers.{bytes-length, put-length}
+use Rattle.step.specs.declared.Retirement.{Retirement}
+use Rattle.step.specs.declared.Event.{Event}
+use Rattle.step.specs.declared.Event.the-variants.{Retired}
+use Rattle.step.specs.declared.Oep060Timing.{Oep060Timing}
+use Rattle.step.specs.declared.Stepped.{Stepped}
+use Rattle.step.specs.Step.{steppedOf, afterOf, seenOf}
+use Rattle.outcome.specs.declared.Refusal.{Refusal}
+use Rattle.trace.specs.declared.Read.the-variants.{Got, Bad, End}
+use Rattle.trace.specs.Record.{readAt}
+use Rattle.trace.specs.Trace.{ahead, readFrom, countOf}
+use Rattle.trace.specs.Run.{outcome, outcomeOf, Fits}
+use Rattle.trace.proofs.Reading.{got-within}
+use Rattle.trace.proofs.Walking.{from-end, from-bad, from-got}
+use Rattle.trace.proofs.Running.{ranAt, outcomeFrom, run-none, run-end, run-cost, run-quiet, fits-ahead, fits-room}
+
+pub record Going (trace lent₀ : List ℕ) (t₀ : Oep060Timing) (lent : List ℕ) (at k sum : ℕ) (t : Oep060Timing) : Type 0 where
+  pub inside : at ≤ length trace
+  -- a retirement takes 20 bytes
+  pub few : 20 * k ≤ at
+  pub same : length lent ≡ length lent₀
+  pub small : sum ≤ k * 4294967295
+  pub fits : Fits k (length lent) (readFrom trace at)
+  pub leads : outcomeFrom lent k sum t (readFrom trace at) ≡ outcomeOf (readFrom trace 0) lent₀ t₀
+
+pub going-start : (trace lent : List ℕ) (t : Oep060Timing) {u : Oep060Timing} → u ≡ seenOf t → Fits 0 (length lent) (readFrom trace 0) → Going trace lent t lent 0 0 0 u
+going-start trace lent t e f =
+    record {
+      inside = omega arith;
+      few = omega arith;
+      same = refl;
+      small = omega arith;
+      fits = f;
+      leads = rw e (run-none (readFrom trace 0) lent t f);
+    }
+
+module _ {trace lent₀ : List ℕ} {t₀ : Oep060Timing} {lent : List ℕ} {at k sum : ℕ} {t : Oep060Timing} (g : Going trace lent₀ t₀ lent at k sum t) where
+  pub going-end : readAt trace at ≡ End → outcome (ranAt k sum t) lent ≡ outcomeOf (readFrom trace 0) lent₀ t₀
+  going-end q = sym (run-end lent k sum t) ∙ sym (ap (outcomeFrom lent k sum t) (from-end trace at q)) ∙ g .leads
+
+  pub going-bad : (refusal : Refusal) → readAt trace at ≡ Bad refusal → ⊥
+  going-bad refusal q = subst (Fits k (length lent)) (from-bad trace at refusal q) (g .fits)
+
+  module _ (e : Event) (next : ℕ) (q : readAt trace at ≡ Got e next) where
+    fits-here : Fits k (length lent) (ahead e (readFrom trace next))
+    fits-here = subst (Fits k (length lent)) (from-got trace at e next q) (g .fits)
+
+    fits-next : Fits (k + countOf (e ∷ [])) (length lent) (readFrom trace next)
+    fits-next = fits-ahead k (length lent) e (readFrom trace next) fits-here
+
+    pub going-nearer : length trace - next < length trace - at
+    going-nearer = let w = got-within trace at e next q in omega arith
+
+    pub going-quiet : countOf (e ∷ []) ≡ 0 → {u : Oep060Timing} → u ≡ afterOf t e → Going trace lent₀ t₀ lent next k sum u
+    going-quiet z h =
+        let w = got-within trace at e next q in
+        let i = g .few in
+        record {
+          inside = w .1;
+          few = omega arith;
+          same = g .same;
+          small = g .small;
+          fits = rw (← add-zero k, ← z) fits-next;
+          leads =
+              rw h
+              (sym (ap (outcomeFrom lent k sum t) (from-got trace at e next q) ∙ run-quiet lent k sum t e (readFrom trace next) z fits-here)
+              ∙ g .leads);
+        }
+
+  module _ {e : Event} {next : ℕ} (q : readAt trace at ≡ Got e next) {r : Retirement} (told : e ≡ Retired r) where
+    retired : readAt trace at ≡ Got (Retired r) next
+    retired = q ∙ ap (λ (x : Event). Got x next) told
+
+    pub going-room : k * 4 + 4 ≤ length lent
+    going-room = omega (arith, fits-room (k + 1) (length lent) (readFrom trace next) (fits-next (Retired r) next retired))
+
+    -- so the total fits 64 bits: a trace of 16,777,216 bytes has 838,860 retirements at most
+    pub going-total : length trace ≤ 16777216 → {n : ℕ} → n < 2 ^ 32 → sum + n < 2 ^ 64
+    going-total h l =
+        let w = got-within trace at (Retired r) next retired in
+        let i = g .few in
+        let j = g .small in
+        omega arith
+
+    pub going-cost : (d : Stepped) → d ≡ steppedOf t r → d .cost .0 < 2 ^ 32
+        → Going trace lent₀ t₀ (putAt lent (k * 4) (bytesOf 4 (d .cost .0))) next (k + 1) (sum + d .cost .0) (d .timing)
+    going-cost d h l =
+        let w = got-within trace at (Retired r) next retired in
+        let i = g .few in
+        let j = g .small in
+        let long = put-length lent (k * 4) (bytesOf 4 (d .cost .0)) (omega (arith, bytes-length 4 (d .cost .0), going-room)) in
+        record {
+          inside = w .1;
+          few = omega arith;
+          same = long ∙ g .same;
+          small = omega arith;
+          fits = rw long (fits-next (Retired r) next retired);
+          leads =
+              sym
+              (ap (outcomeFrom lent k sum t) (from-got trace at (Retired r) next retired)
+              ∙ run-cost lent k sum t r (readFrom trace next) d h going-room (fits-here (Retired r) next retired))
+              ∙ g .leads;
+        }

@@ -1,0 +1,135 @@
+-- A run in two parts, the second from the state that the first leaves, gives the costs and the state of the run of both.
+-- Assumes nothing.
+use Prim.Native.Nat.{ℕ, suc, _+_, _*_, _≤_}
+use mathlib.Core.Path.{_≡_, refl, sym, ap, _∙_}
+use mathlib.Core.List.{List, [], _∷_, _++_, append-assoc, append-nil}
+use native.Mathlib.Omega.{arith}
+use lib.ListN.{length, drop, length-append}
+use lib.Seq.{drop-append-add, drop-length}
+use Rattle.little_endian.specs.Numbers.{bytesOf, putAt}
+use Rattle.little_endian.proofs.Numbers.{bytes-length}
+use Rattle.pairing.specs.Cost.{costOf}
+use Rattle.step.specs.declared.Event.{Event}
+use Rattle.step.specs.declared.Event.the-variants.{Retired, Broken, ClearedAll, ClearedUser}
+use Rattle.step.specs.declared.Oep060Timing.{Oep060Timing}
+use Rattle.step.specs.Board.{Board}
+use Rattle.step.specs.Events.{State, retiringOf, after, retirements, finally, costs, total}
+use Rattle.step.specs.Crate.{crateCache, crateBoard}
+use Rattle.step.specs.Step.{stateOf, timingOf, seenOf}
+use Rattle.outcome.specs.declared.Verdict.the-variants.{Accepted}
+use Rattle.trace.specs.Trace.{countOf}
+use Rattle.trace.specs.Run.{costBytes, costsOf, nextOf, Outcome, outcome, runTraceOf}
+use Rattle.trace.specs.Table.{Accepts}
+use Rattle.trace.proofs.Counting.{count-cons}
+use Rattle.trace.proofs.Seen.{state-seen, finally-seen}
+use Rattle.trace.proofs.Refused.{run-accepted}
+use Rattle.trace.proofs.Joined.{reached-joined}
+
+module _ (B : Board) where
+  pub finally-append : (s : State (B .rule)) (es fs : List Event) → finally B s (es ++ fs) ≡ finally B (finally B s es) fs
+  unfolding finally
+  finally-append s [] fs = refl
+  finally-append s (e ∷ es) fs = finally-append (after B s e) es fs
+
+  pub costs-append : (s : State (B .rule)) (es fs : List Event) → costs B s (es ++ fs) ≡ costs B s es ++ costs B (finally B s es) fs
+  unfolding finally retirements
+  costs-append s [] fs = refl
+  costs-append s (Retired r ∷ es) fs = ap (λ (ns : List ℕ). costOf (retiringOf B s r) ∷ ns) (costs-append (after B s (Retired r)) es fs)
+  costs-append s (Broken ∷ es) fs = costs-append (after B s Broken) es fs
+  costs-append s (ClearedAll ∷ es) fs = costs-append (after B s ClearedAll) es fs
+  costs-append s (ClearedUser ∷ es) fs = costs-append (after B s ClearedUser) es fs
+
+  pub costs-length : (s : State (B .rule)) (es : List Event) → length (costs B s es) ≡ countOf es
+  unfolding retirements
+  costs-length s [] = refl
+  costs-length s (Retired r ∷ es) = ap suc (costs-length (after B s (Retired r)) es)
+  costs-length s (Broken ∷ es) = costs-length (after B s Broken) es
+  costs-length s (ClearedAll ∷ es) = costs-length (after B s ClearedAll) es
+  costs-length s (ClearedUser ∷ es) = costs-length (after B s ClearedUser) es
+
+pub count-append : (es fs : List Event) → countOf (es ++ fs) ≡ countOf es + countOf fs
+count-append [] fs = omega arith
+count-append (e ∷ es) fs = omega (arith, count-cons e (es ++ fs), count-cons e es, count-append es fs)
+
+pub total-append : (ns ms : List ℕ) → total (ns ++ ms) ≡ total ns + total ms
+total-append [] ms = omega arith
+total-append (n ∷ ns) ms = omega (arith, total-append ns ms)
+
+pub bytes-append : (ns ms : List ℕ) → costBytes (ns ++ ms) ≡ costBytes ns ++ costBytes ms
+bytes-append [] ms = refl
+bytes-append (n ∷ ns) ms = ap (λ (bs : List ℕ). bytesOf 4 n ++ bs) (bytes-append ns ms) ∙ sym (append-assoc (bytesOf 4 n) (costBytes ns) (costBytes ms))
+
+pub bytes-four : (ns : List ℕ) → length (costBytes ns) ≡ 4 * length ns
+bytes-four [] = refl
+bytes-four (n ∷ ns) = omega (arith, length-append (bytesOf 4 n) (costBytes ns), bytes-length 4 n, bytes-four ns)
+
+-- the state that a run leaves is as it is read
+next-read : (t : Oep060Timing) (es : List Event) → stateOf (seenOf (nextOf t es)) ≡ finally crateBoard (stateOf (seenOf t)) es
+next-read t es =
+    sym (finally-seen crateBoard (stateOf (seenOf t)) es)
+    ∙ ap (λ (s : State crateCache). finally crateBoard s es) (state-seen crateBoard (stateOf t))
+
+pub next-append : (t : Oep060Timing) (es fs : List Event) → nextOf t (es ++ fs) ≡ nextOf (nextOf t es) fs
+next-append t es fs =
+    ap timingOf
+    (finally-append crateBoard (stateOf (seenOf t)) es fs
+    ∙ ap (λ (s : State crateCache). finally crateBoard s fs) (sym (next-read t es)))
+
+pub run-costs-append : (t : Oep060Timing) (es fs : List Event) → costsOf t (es ++ fs) ≡ costsOf t es ++ costsOf (nextOf t es) fs
+run-costs-append t es fs =
+    costs-append crateBoard (stateOf (seenOf t)) es fs
+    ∙ ap (λ (s : State crateCache). costsOf t es ++ costs crateBoard s fs) (sym (next-read t es))
+
+-- bytes that fill the first list, and those behind them
+put-full : (l bs : List ℕ) → length bs ≡ length l → putAt l 0 bs ≡ bs
+unfolding putAt
+put-full l bs e =
+    let z : 0 + length bs ≡ length l = omega arith in
+    ap (λ (n : ℕ). bs ++ drop n l) z ∙ ap (λ (x : List ℕ). bs ++ x) (drop-length l) ∙ append-nil bs
+
+put-both : (l m bs cs : List ℕ) → length bs ≡ length l → putAt (l ++ m) 0 (bs ++ cs) ≡ putAt l 0 bs ++ putAt m 0 cs
+unfolding putAt
+put-both l m bs cs e =
+    let n : 0 + length (bs ++ cs) ≡ length l + (0 + length cs) = omega (arith, length-append bs cs) in
+    ap (λ (k : ℕ). (bs ++ cs) ++ drop k (l ++ m)) n
+    ∙ ap (λ (x : List ℕ). (bs ++ cs) ++ x) (drop-append-add l m (0 + length cs))
+    ∙ append-assoc bs cs (drop (0 + length cs) m)
+    ∙ ap (λ (x : List ℕ). x ++ (cs ++ drop (0 + length cs) m)) (sym (put-full l bs e))
+
+-- one run into lent bytes of which the first part is what the first trace's costs fill
+module _ (a b l m : List ℕ) (t : Oep060Timing) {es fs : List Event} (first : Accepts a (length l) es) (second : Accepts b (length m) fs)
+    (fills : length l ≡ 4 * countOf es) (size : length (a ++ b) ≤ 16777216) where
+  abbrev ran₁ : Outcome
+  ran₁ = runTraceOf a l t
+
+  abbrev ran₂ : Outcome
+  ran₂ = runTraceOf b m (ran₁ .ran .timing)
+
+  both : Accepts (a ++ b) (length (l ++ m)) (es ++ fs)
+  both =
+      record {
+        size = size;
+        records = reached-joined a b (first .records) (second .records);
+        enough = let p = second .enough in omega (arith, count-append es fs, length-append l m);
+      }
+
+  pub run-parts : runTraceOf (a ++ b) (l ++ m) t
+      ≡ outcome
+      (record {
+        verdict = Accepted;
+        count = ran₁ .ran .count + ran₂ .ran .count;
+        total = ran₁ .ran .total + ran₂ .ran .total;
+        timing = ran₂ .ran .timing;
+      })
+      (ran₁ .bytes ++ ran₂ .bytes)
+  run-parts =
+      let u : Oep060Timing = nextOf t es in
+      let full : length (costBytes (costsOf t es)) ≡ length l =
+      bytes-four (costsOf t es) ∙ ap (λ (n : ℕ). 4 * n) (costs-length crateBoard (stateOf (seenOf t)) es) ∙ sym fills in
+      let bs : putAt (l ++ m) 0 (costBytes (costsOf t (es ++ fs))) ≡ putAt l 0 (costBytes (costsOf t es)) ++ putAt m 0 (costBytes (costsOf u fs)) =
+      ap (λ (ns : List ℕ). putAt (l ++ m) 0 (costBytes ns)) (run-costs-append t es fs)
+      ∙ ap (putAt (l ++ m) 0) (bytes-append (costsOf t es) (costsOf u fs))
+      ∙ put-both l m (costBytes (costsOf t es)) (costBytes (costsOf u fs)) full in
+      let sum : total (costsOf t (es ++ fs)) ≡ total (costsOf t es) + total (costsOf u fs) =
+      ap total (run-costs-append t es fs) ∙ total-append (costsOf t es) (costsOf u fs) in
+      rw (run-accepted a l t first) (rw (run-accepted b m u second) (run-accepted (a ++ b) (l ++ m) t both ∙ rw (count-append es fs, sum, next-append t es fs, bs)))
