@@ -11,3 +11,4 @@ pub mod DeterminedEvents
 pub mod Images
 pub mod Traces
 pub mod DeterminedRuns
+pub mod Batches

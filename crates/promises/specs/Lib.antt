@@ -5,6 +5,7 @@
 --   Retirements   ==  what holds of every retirement, break and clear
 --   Demand3       ==  demand 3: time moves
 --   Traces        ==  what holds of every run of a trace
+--   Batches       ==  what holds of every batch
 --   Images        ==  what holds of every state image
 --   Determined    ==  one answer at each input
 pub mod Opcodes
@@ -12,5 +13,6 @@ pub mod Worked
 pub mod Retirements
 pub mod Demand3
 pub mod Traces
+pub mod Batches
 pub mod Images
 pub mod Determined

@@ -1,0 +1,57 @@
+-- The facts of every batch, from the laws of the crates batch and trace.
+-- Assumes nothing.
+use Prim.Native.Nat.{ℕ, suc, _≤_}
+use mathlib.Core.Path.{_≡_, refl, sym, ap, _∙_}
+use mathlib.Core.List.{List, [], _∷_}
+use native.Mathlib.Omega.{arith}
+use borrow.Author.Tests.{le-ltb}
+use lib.ListN.{length, drop, take}
+use lib.Seq.{take-at}
+use Rattle.step.specs.declared.Oep060Timing.{Oep060Timing}
+use Rattle.step.specs.declared.Retirement.{Retirement}
+use Rattle.step.specs.Events.{costs}
+use Rattle.step.specs.Crate.{crateBoard}
+use Rattle.step.specs.Step.{stateOf, seenOf}
+use Rattle.outcome.specs.declared.Verdict.the-variants.{Accepted}
+use Rattle.outcome.specs.declared.Ran.{Ran}
+use Rattle.little_endian.specs.Numbers.{putAt}
+use Rattle.trace.specs.Trace.{countOf}
+use Rattle.trace.specs.Run.{Outcome, costBytes, costsOf, nextOf, runTraceOf}
+use Rattle.trace.specs.Table.{Accepts}
+use Rattle.trace.proofs.Refused.{run-accepted}
+use Rattle.trace.proofs.Bounds.{accepted-few}
+use Rattle.trace.proofs.Parts.{costs-length}
+use Rattle.batch.specs.Batch.{eventsOf, judgeOf, acceptedOf, outcomeBy, batchOf}
+use Rattle.batch.proofs.Refusals.{batch-gives-1, batch-gives-7, batch-accepts}
+use Rattle.promises.specs.Batches.{EveryBatch}
+
+all-count : (rs : List Retirement) → countOf (eventsOf rs) ≡ length rs
+all-count [] = refl
+all-count (r ∷ rs) = ap suc (all-count rs)
+
+module _ (trace lent ps : List ℕ) (t : Oep060Timing) (rs : List Retirement) (ok : Accepts trace (length lent) (eventsOf rs)) (room : length rs ≤ length ps) where
+  batch-accepted : batchOf rs ps t ≡ acceptedOf rs ps t
+  unfolding batchOf judgeOf
+  batch-accepted =
+      rw (le-ltb 1048576 (length rs) (omega (arith, all-count rs, accepted-few trace (length lent) ok)), le-ltb (length ps) (length rs) room)
+
+  as-trace : batchOf rs ps t .ran ≡ runTraceOf trace lent t .ran
+  as-trace =
+      rw (batch-accepted, run-accepted trace lent t ok)
+      (ap (λ (n : ℕ). record { verdict = Accepted; count = n; total = acceptedOf rs ps t .ran .total; timing = nextOf t (eventsOf rs) }) (sym (all-count rs)))
+
+  as-trace-costs : runTraceOf trace lent t .bytes ≡ putAt lent 0 (costBytes (take (length rs) (batchOf rs ps t .places)))
+  as-trace-costs =
+      rw (batch-accepted, run-accepted trace lent t ok)
+      (ap (λ (ns : List ℕ). putAt lent 0 (costBytes ns))
+      (sym (take-at (costsOf t (eventsOf rs)) (drop (length rs) ps) (length rs) (costs-length crateBoard (stateOf (seenOf t)) (eventsOf rs) ∙ all-count rs))))
+
+pub every-batch : EveryBatch
+every-batch =
+    record {
+      given1 = λ rs ps t. batch-gives-1 rs ps t;
+      given7 = λ rs ps t. batch-gives-7 rs ps t;
+      taken = λ rs ps t. batch-accepts rs ps t;
+      asTrace = as-trace;
+      asTraceCosts = as-trace-costs;
+    }
