@@ -1,7 +1,7 @@
 // Part 5 of document 01: what one event does to a state.
 ghost use mathlib.Core.Path.{_≡_};
-ghost use Rattle.step.specs.Events.{heard, consults};
-ghost use Rattle.step.specs.Crate.{crateProfile};
+ghost use Rattle.step.specs.Events.{heard, consults, answerOf, cacheAfter};
+ghost use Rattle.step.specs.Crate.{slotCache, crateProfile};
 ghost use Rattle.step.specs.Step.{timingAt, steppedAt, turnedOf, steppedBy, steppedOf, afterOf, seenOf, freshOf};
 ghost use Rattle.step.specs.declared.Event.the-variants.{Broken, ClearedAll, ClearedUser};
 use branch_cache::BranchCache060;
@@ -86,26 +86,40 @@ fn answer_of(predicted: Predicted) -> Answer
     }
 }
 
+// What the cache says of a retirement, from the slot of its ppc.
+fn asked(slot: Slot, i: Instruction, k: Controls) -> Answer
+    ensures { λ r. ⌜ r ≡ answerOf slotCache slot i k ⌝ }
+{
+    if consulted(i, k) {
+        return answer_of(slot.predict(k.ppc));
+    }
+    Answer::NotConsulted
+}
+
+// That slot after the retirement.
+fn updated(slot: Slot, i: Instruction, k: Controls) -> Slot
+    ensures { λ r. ⌜ r ≡ cacheAfter slotCache slot i k ⌝ }
+{
+    if consulted(i, k) {
+        return slot.update(k.ppc, pairing::taken(i, k), !k.supervisor);
+    }
+    slot
+}
+
 // One retirement, over the window and the slot of its ppc.
 pub fn turn(w: Window, slot: Slot, i: Instruction, k: Controls) -> Turned
     ensures { λ r. ⌜ r ≡ turnedOf w slot i k ⌝ }
 {
-    if consulted(i, k) {
-        let answer = answer_of(slot.predict(k.ppc));
-        let retired = pairing::retire(i, k, w, answer);
-        let next = slot.update(k.ppc, pairing::taken(i, k), !k.supervisor);
-        let window = retired.window;
-        let cost = retired.cost;
-        return Turned {
-            window,
-            slot: next,
-            cost,
-        };
-    }
-    let retired = pairing::retire(i, k, w, Answer::NotConsulted);
+    let answer = asked(slot, i, k);
+    let retired = pairing::retire(i, k, w, answer);
+    let next = updated(slot, i, k);
     let window = retired.window;
     let cost = retired.cost;
-    Turned { window, slot, cost }
+    Turned {
+        window,
+        slot: next,
+        cost,
+    }
 }
 
 // One retirement in place, by what the instruction is, whatever the profile: of the arrays only the slot of ppc is stored.
