@@ -33,6 +33,11 @@ pub fn cost_lister(input: &[u8]) -> String {
     listing(input, Oep060Timing::default()).0
 }
 
+pub fn lister_limit() -> String {
+    let breaks: Vec<u8> = (0..=LISTED).map(|i| if i % 4 == 2 { 2 } else { 0 }).collect();
+    cost_lister(&breaks[..LISTED]) + &cost_lister(&breaks)
+}
+
 pub fn replay(input: &[u8]) -> String {
     let state = match read_image(&input[..input.len().min(IMAGE)]) {
         Ok(state) => state,

@@ -12,3 +12,4 @@ pub mod Images
 pub mod Traces
 pub mod DeterminedRuns
 pub mod Batches
+pub mod DeterminedHosts

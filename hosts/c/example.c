@@ -1,0 +1,155 @@
+/* An example host. It retires the four instructions of document 01's worked trace one by one, and prints the lines that the cost
+ * lister prints for them. Then it goes through every other function of timing_060.h once, and holds what they give against that:
+ * where anything differs it says so, and its exit status is 1.
+ *
+ * On x86-64, in this folder, after `rt staticlib host`:
+ *     cc -o example example.c ../../target/staticlib/libhost.a
+ * and with no C library:
+ *     clang --target=x86_64-unknown-linux-gnu -ffreestanding -nostdinc -I freestanding -fno-stack-protector -nostdlib -static \
+ *         -fuse-ld=lld -o example example.c ../../target/staticlib/libhost.a
+ */
+#include "timing_060.h"
+#include "system.h"
+
+_Static_assert(sizeof(timing_060_record) == 16 && sizeof(timing_060_ran) == 32 && sizeof(timing_060_masks) == 4, "the structs are packed as the library has them");
+
+static void print_decimal(uint64_t x) {
+    char s[20];
+    int i = 20;
+    do s[--i] = (char)('0' + x % 10);
+    while (x /= 10);
+    put(s + i, 20ul - (unsigned)i);
+}
+
+static void print_opcode(uint16_t op) {
+    char s[4];
+    for (int i = 0; i < 4; i++) s[i] = "0123456789ABCDEF"[op >> (12 - 4 * i) & 15];
+    put(s, 4);
+}
+
+static int same_state(const timing_060 *a, const timing_060 *b) {
+    for (int i = 0; i < 256; i++)
+        if (a->tags[i] != b->tags[i] || a->state[i] != b->state[i]) return 0;
+    for (int i = 0; i < 5; i++)
+        if (a->window[i] != b->window[i]) return 0;
+    return 1;
+}
+
+enum { INSTRUCTIONS = 4, IMAGE = 1288, KEPT = TIMING_060_CACHED | TIMING_060_ESS | TIMING_060_EBC | TIMING_060_SUPERVISOR, TAKEN = KEPT | TIMING_060_FLOWED };
+
+/* The worked trace: as an emulator has it, and as the bytes of a trace. */
+static const timing_060_record WORKED[INSTRUCTIONS] = {
+    {0x7000, KEPT, 0x1000, 0x1002, 4},
+    {0x7200, KEPT, 0x1002, 0x1004, 4},
+    {0x60FE, TAKEN, 0x1004, 0x1004, 10},
+    {0x60FE, TAKEN, 0x1004, 0x1004, 10},
+};
+static const uint8_t WORKED_BYTES[20 * INSTRUCTIONS] = {
+    0x10, 0, 1, 0, 0x00, 0x70, 0x1E, 0, 0x00, 0x10, 0, 0, 0x02, 0x10, 0, 0, 4, 0, 0, 0,
+    0x10, 0, 1, 0, 0x00, 0x72, 0x1E, 0, 0x02, 0x10, 0, 0, 0x04, 0x10, 0, 0, 4, 0, 0, 0,
+    0x10, 0, 1, 0, 0xFE, 0x60, 0x1F, 0, 0x04, 0x10, 0, 0, 0x04, 0x10, 0, 0, 10, 0, 0, 0,
+    0x10, 0, 1, 0, 0xFE, 0x60, 0x1F, 0, 0x04, 0x10, 0, 0, 0x04, 0x10, 0, 0, 10, 0, 0, 0,
+};
+static const uint32_t CLOCKS[INSTRUCTIONS] = {1, 0, 7, 1};
+
+/* The emulator's own loop: each instruction as it retires. */
+static void step_by_step(timing_060 *t) {
+    uint64_t total = 0;
+    print("index opcode clocks\n");
+    for (int i = 0; i < INSTRUCTIONS; i++) {
+        const timing_060_record *r = &WORKED[i];
+        uint32_t clocks = timing_060_retire(t, r->op, r->flags, r->ppc, r->pc, r->raw);
+        total += clocks;
+        print_decimal((uint64_t)i);
+        print(" ");
+        print_opcode(r->op);
+        print(" ");
+        print_decimal(clocks);
+        print("\n");
+        expect(clocks == CLOCKS[i], "the clocks of a step");
+    }
+    print("total ");
+    print_decimal(INSTRUCTIONS);
+    print(" ");
+    print_decimal(total);
+    print("\n");
+}
+
+/* A trace and a batch cost the same, and leave the same state; the place beyond the last cost stays. */
+static void runs(const timing_060 *stepped) {
+    static timing_060 t;
+    static uint8_t bytes[4 * INSTRUCTIONS + 1];
+    static uint32_t places[INSTRUCTIONS + 1];
+    timing_060_fresh(&t);
+    bytes[4 * INSTRUCTIONS] = 99;
+    expect(is(timing_060_run_trace(&t, WORKED_BYTES, sizeof WORKED_BYTES, bytes, sizeof bytes), 0, 0, 4, 9), "what the trace gives");
+    expect(same_state(&t, stepped), "the state after the trace");
+    for (int i = 0; i < 4 * INSTRUCTIONS; i++) expect(bytes[i] == (i % 4 ? 0 : CLOCKS[i / 4]), "a cost of the trace");
+    expect(bytes[4 * INSTRUCTIONS] == 99, "the byte beyond the trace's costs");
+    expect(is(timing_060_run_trace(&t, WORKED_BYTES, 79, bytes, sizeof bytes), 5, 60, 0, 0), "the refusal of a cut trace");
+    expect(same_state(&t, stepped), "the state after a refused trace");
+
+    timing_060_fresh(&t);
+    places[INSTRUCTIONS] = 99;
+    expect(is(timing_060_run_batch(&t, WORKED, INSTRUCTIONS, places, INSTRUCTIONS + 1), 0, 0, 4, 9), "what the batch gives");
+    expect(same_state(&t, stepped), "the state after the batch");
+    for (int i = 0; i < INSTRUCTIONS; i++) expect(places[i] == CLOCKS[i], "a cost of the batch");
+    expect(places[INSTRUCTIONS] == 99, "the place beyond the batch's costs");
+    expect(is(timing_060_run_batch(&t, WORKED, INSTRUCTIONS, places, INSTRUCTIONS - 1), 7, 0, 0, 0), "the refusal of a batch with too few places");
+}
+
+/* The state saved and read back; a refused image gives a fresh state. */
+static void images(const timing_060 *kept) {
+    static timing_060 t, fresh;
+    static uint8_t image[IMAGE];
+    expect(is(timing_060_image_write(kept, image, IMAGE - 1), 7, 0, 0, 0), "the refusal of an image with too little room");
+    expect(is(timing_060_image_write(kept, image, IMAGE), 0, 0, IMAGE, 0), "what image writing gives");
+    expect(is(timing_060_image_read(&t, image, IMAGE), 0, 0, 0, 0), "what image reading gives");
+    expect(same_state(&t, kept), "the state read back");
+    expect(is(timing_060_image_read(&t, image, IMAGE - 1), 8, 0, 0, 0), "the refusal of a short image");
+    expect(same_state(&t, &fresh), "the state of a refused image");
+}
+
+/* The window: any number but 0 is yes, and of a shut one the others are left as zeros. */
+static void windows(void) {
+    static timing_060 t;
+    static const uint16_t HEAD[5] = {2, 1, 3, 0, 0xFFFF}, SHUT[5] = {0, 1, 3, 0, 0xFFFF};
+    for (int i = 0; i < 5; i++) t.window[i] = HEAD[i];
+    timing_060_clear_all(&t);
+    expect(t.window[0] == 1 && t.window[1] == 1 && t.window[2] == 1 && t.window[3] == 0 && t.window[4] == 1, "an open window");
+    expect(timing_060_retire(&t, 0x7200, KEPT, 0, 2, 4) == 0, "the clocks behind an open window");
+    for (int i = 0; i < 5; i++) t.window[i] = SHUT[i];
+    timing_060_clear_user(&t);
+    for (int i = 0; i < 5; i++) expect(t.window[i] == 0, "a shut window");
+}
+
+static int host(void) {
+    static timing_060 t;
+    timing_060_fresh(&t);
+    step_by_step(&t);
+    runs(&t);
+
+    t.state[7] = 12;
+    timing_060_retire(&t, 0x7000, KEPT, 0x2000, 0x2002, 4);
+    expect(t.window[0] == 1 && t.window[1] == 1 && t.window[2] == 1 && t.window[3] == 0 && t.window[4] == 1, "the window behind MOVEQ #0,D0");
+    images(&t);
+    timing_060_break(&t);
+    for (int i = 0; i < 5; i++) expect(t.window[i] == 0, "the window after a break");
+    expect(t.tags[2] == 0x1004 && t.state[2] == 7 && t.state[7] == 12, "the cache after a break");
+    images(&t);
+    timing_060_clear_user(&t);
+    expect(t.state[2] == 7 && t.state[7] == 0, "the slots after a clear of user entries");
+    timing_060_clear_all(&t);
+    expect(t.state[2] == 0 && t.tags[2] == 0x1004, "the slots after a clear of all");
+    windows();
+
+    /* An RTS that flowed: raw is signed, and flag bits above bit 4 are not looked at. */
+    static const timing_060_record RTS = {0x4E75, 0xFFE0 | TAKEN, 0x3000, 0x4000, -1};
+    uint32_t clocks = 0;
+    expect(timing_060_retire(&t, RTS.op, RTS.flags, RTS.ppc, RTS.pc, RTS.raw) == 5, "the clocks of RTS");
+    expect(is(timing_060_run_batch(&t, &RTS, 1, &clocks, 1), 0, 0, 1, 5) && clocks == 5, "the batch of RTS");
+
+    timing_060_masks m = timing_060_masks_of(0x49D0);
+    expect(timing_060_class_word(0x49D0) == 0xC404 && m.uses == 0x0100 && m.defs == 0x1000, "class word and masks of 49D0");
+    return failures != 0;
+}

@@ -1,0 +1,186 @@
+//! The clocks of retired 68060 instructions.
+//!
+//! [`Timing060`] is the timing state that an emulator keeps beside its CPU: a branch cache of 256 slots and the pairing window. Each
+//! retired instruction goes through [`Timing060::retire`], which answers its clocks. The work is done by a library whose every function is
+//! proved to meet its contract; this crate adds the calls and nothing else. It cannot be misused: every state, instruction, trace and
+//! image has an answer or a numbered refusal.
+//!
+//! ```no_run
+//! use timing_060::{Flags, Retirement, Timing060};
+//!
+//! let mut timing = Timing060::new();
+//! let flags = Flags { flowed: false, cached: true, ess: true, ebc: true, supervisor: true };
+//! let clocks = timing.retire(Retirement { op: 0x7000, flags, ppc: 0x1000, pc: 0x1002, raw: 4 });
+//! assert_eq!(clocks, 1);
+//! ```
+
+mod sys;
+
+/// The bytes of a state image.
+pub const IMAGE: usize = 1288;
+
+/// What the host knows of a retirement, as yes or no.
+#[derive(Clone, Copy, Debug, Default, PartialEq, Eq)]
+pub struct Flags {
+    /// The instruction changed the flow (the handler's `change_of_flow`).
+    pub flowed: bool,
+    /// Its opcode came from the instruction cache.
+    pub cached: bool,
+    /// PCR.ESS: superscalar dispatch is on.
+    pub ess: bool,
+    /// CACR.EBC: the branch cache is on.
+    pub ebc: bool,
+    /// The CPU is in supervisor mode.
+    pub supervisor: bool,
+}
+
+impl Flags {
+    fn bits(self) -> u16 {
+        self.flowed as u16 | (self.cached as u16) << 1 | (self.ess as u16) << 2 | (self.ebc as u16) << 3 | (self.supervisor as u16) << 4
+    }
+}
+
+/// A retired instruction.
+#[derive(Clone, Copy, Debug, Default, PartialEq, Eq)]
+pub struct Retirement {
+    /// The opcode word.
+    pub op: u16,
+    pub flags: Flags,
+    /// Where the instruction stood.
+    pub ppc: u32,
+    /// Where the next one stands.
+    pub pc: u32,
+    /// The handler's 68000 count.
+    pub raw: i32,
+}
+
+/// A retired instruction as a batch holds it: 16 bytes, as in a trace.
+#[repr(C)]
+#[derive(Clone, Copy, Debug, Default, PartialEq, Eq)]
+pub struct Record {
+    op: u16,
+    flags: u16,
+    ppc: u32,
+    pc: u32,
+    raw: i32,
+}
+
+impl From<Retirement> for Record {
+    fn from(r: Retirement) -> Self {
+        Record { op: r.op, flags: r.flags.bits(), ppc: r.ppc, pc: r.pc, raw: r.raw }
+    }
+}
+
+/// What an accepted run gives.
+#[derive(Clone, Copy, Debug, PartialEq, Eq)]
+pub struct Ran {
+    /// How many instructions retired.
+    pub count: u64,
+    /// The sum of their clocks.
+    pub total: u64,
+}
+
+/// A refusal: its number in the table of refusals, and its place. Nothing was written, and the state is as it was.
+#[derive(Clone, Copy, Debug, PartialEq, Eq)]
+pub struct Refused {
+    pub number: u64,
+    pub place: u64,
+}
+
+/// The registers that an instruction uses and defines: D0 to D7 in bits 0 to 7, A0 to A7 in bits 8 to 15.
+#[derive(Clone, Copy, Debug, PartialEq, Eq)]
+pub struct Masks {
+    pub uses: u16,
+    pub defs: u16,
+}
+
+/// The timing state of a 68060.
+#[repr(C)]
+#[derive(Clone, Debug, PartialEq, Eq)]
+pub struct Timing060 {
+    tags: [u32; 256],
+    state: [u8; 256],
+    window: [u16; 5],
+}
+
+impl Default for Timing060 {
+    fn default() -> Self {
+        Self::new()
+    }
+}
+
+impl Timing060 {
+    /// A fresh state.
+    pub fn new() -> Self {
+        let mut t = Timing060 { tags: [0; 256], state: [0; 256], window: [0; 5] };
+        unsafe { sys::timing_060_fresh_at(&mut t.tags, &mut t.state, &mut t.window) };
+        t
+    }
+
+    /// One retired instruction: its clocks.
+    #[inline]
+    pub fn retire(&mut self, r: Retirement) -> u32 {
+        unsafe { sys::timing_060_retire_at(&mut self.tags, &mut self.state, &mut self.window, r.op, r.flags.bits(), r.ppc, r.pc, r.raw) }
+    }
+
+    /// The pipeline breaks: the pairing window is shut, and nothing else changes.
+    pub fn break_pipeline(&mut self) {
+        unsafe { sys::timing_060_break_at(&mut self.window) }
+    }
+
+    /// CACR.CABC: every entry of the branch cache is cleared.
+    pub fn clear_all(&mut self) {
+        unsafe { sys::timing_060_clear_all_at(&mut self.state, &mut self.window) }
+    }
+
+    /// CACR.CUBC: the entries that were allocated in user mode are cleared.
+    pub fn clear_user(&mut self) {
+        unsafe { sys::timing_060_clear_user_at(&mut self.state, &mut self.window) }
+    }
+
+    /// Runs a trace: 4 bytes of clocks, little-endian, for each retirement. Bytes beyond the last cost stay.
+    pub fn run_trace(&mut self, trace: &[u8], costs: &mut [u8]) -> Result<Ran, Refused> {
+        let (s, c) = (sys::Shared::of(trace), sys::Lent::of(costs));
+        answer(unsafe { sys::timing_060_run_trace_at(s, c, &mut self.tags, &mut self.state, &mut self.window) })
+    }
+
+    /// Runs a batch: a place for each record. Places beyond the last cost stay.
+    pub fn run_batch(&mut self, records: &[Record], costs: &mut [u32]) -> Result<Ran, Refused> {
+        let s = sys::Shared { at: records.as_ptr().cast(), count: records.len() as u64 * 4 };
+        let c = sys::Lent::of(costs);
+        answer(unsafe { sys::timing_060_run_batch_at(s, c, &mut self.tags, &mut self.state, &mut self.window) })
+    }
+
+    /// The state as bytes.
+    pub fn image(&self) -> [u8; IMAGE] {
+        let mut image = [0; IMAGE];
+        unsafe { sys::timing_060_image_write_at(&self.tags, &self.state, &self.window, sys::Lent::of(&mut image)) };
+        image
+    }
+
+    /// The state of an image.
+    pub fn from_image(image: &[u8]) -> Result<Self, Refused> {
+        let mut t = Self::new();
+        let ran = unsafe { sys::timing_060_image_read_at(sys::Shared::of(image), &mut t.tags, &mut t.state, &mut t.window) };
+        answer(ran).map(|_| t)
+    }
+}
+
+/// The class word of an opcode.
+pub fn class_word(op: u16) -> u16 {
+    unsafe { sys::timing_060_class_word(op) }
+}
+
+/// The register masks of an opcode.
+pub fn masks(op: u16) -> Masks {
+    let m = unsafe { sys::timing_060_masks_of(op) };
+    Masks { uses: m.uses, defs: m.defs }
+}
+
+fn answer(ran: sys::HostRan) -> Result<Ran, Refused> {
+    if ran.refusal == 0 {
+        Ok(Ran { count: ran.count, total: ran.total })
+    } else {
+        Err(Refused { number: ran.refusal, place: ran.place })
+    }
+}

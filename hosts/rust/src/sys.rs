@@ -1,0 +1,55 @@
+//! The library's functions as they are exported. Nothing checks these declarations against it: the tests and the examples do.
+
+/// Lent memory that is read: where it starts, and how many there are.
+#[repr(C)]
+pub struct Shared<T> {
+    pub at: *const T,
+    pub count: u64,
+}
+
+impl<T> Shared<T> {
+    pub fn of(s: &[T]) -> Self {
+        Shared { at: s.as_ptr(), count: s.len() as u64 }
+    }
+}
+
+/// Lent memory that is written.
+#[repr(C)]
+pub struct Lent<T> {
+    pub at: *mut T,
+    pub count: u64,
+}
+
+impl<T> Lent<T> {
+    pub fn of(s: &mut [T]) -> Self {
+        Lent { at: s.as_mut_ptr(), count: s.len() as u64 }
+    }
+}
+
+#[repr(C)]
+pub struct HostRan {
+    pub refusal: u64,
+    pub place: u64,
+    pub count: u64,
+    pub total: u64,
+}
+
+#[repr(C)]
+pub struct HostMasks {
+    pub uses: u16,
+    pub defs: u16,
+}
+
+extern "C" {
+    pub fn timing_060_fresh_at(tags: &mut [u32; 256], state: &mut [u8; 256], window: &mut [u16; 5]);
+    pub fn timing_060_retire_at(tags: &mut [u32; 256], state: &mut [u8; 256], window: &mut [u16; 5], op: u16, flags: u16, ppc: u32, pc: u32, raw: i32) -> u32;
+    pub fn timing_060_break_at(window: &mut [u16; 5]);
+    pub fn timing_060_clear_all_at(state: &mut [u8; 256], window: &mut [u16; 5]);
+    pub fn timing_060_clear_user_at(state: &mut [u8; 256], window: &mut [u16; 5]);
+    pub fn timing_060_class_word(op: u16) -> u16;
+    pub fn timing_060_masks_of(op: u16) -> HostMasks;
+    pub fn timing_060_run_trace_at(trace: Shared<u8>, costs: Lent<u8>, tags: &mut [u32; 256], state: &mut [u8; 256], window: &mut [u16; 5]) -> HostRan;
+    pub fn timing_060_run_batch_at(records: Shared<u32>, costs: Lent<u32>, tags: &mut [u32; 256], state: &mut [u8; 256], window: &mut [u16; 5]) -> HostRan;
+    pub fn timing_060_image_write_at(tags: &[u32; 256], state: &[u8; 256], window: &[u16; 5], image: Lent<u8>) -> HostRan;
+    pub fn timing_060_image_read_at(image: Shared<u8>, tags: &mut [u32; 256], state: &mut [u8; 256], window: &mut [u16; 5]) -> HostRan;
+}
