@@ -6,7 +6,7 @@ use mathlib.Core.List.{List, [], _∷_, _++_, append-nil}
 use native.Mathlib.Nat.{add-zero}
 use native.Mathlib.Omega.{arith}
 use native.Mathlib.Numerals.{add-one}
-use lib.ListN.{length, take, getD, set, length-set, length-append, take-append-drop}
+use lib.ListN.{length, take, drop, getD, set, length-set, length-append, take-append-drop}
 use lib.Seq.{sets-eq, length-take-le, take-suc}
 use Rattle.little_endian.specs.Numbers.{putAt}
 use Rattle.little_endian.proofs.Numbers.{put-length, put-joins}
@@ -55,6 +55,19 @@ unfolding writtenOf
 wrote lent at text room e =
     let b = ap (λ (w : Written). w .bytes) e in
     record { place = ap (λ (w : Written). w .next) e; bytes = b; same = ap length b ∙ put-length lent at text room }
+
+-- where no byte came or went, the text has had room
+pub written-within : (lent : List ℕ) (at : ℕ) (text : List ℕ) → at ≤ length lent → {next : ℕ} {after : List ℕ}
+    → written next after ≡ writtenOf lent at text → length after ≡ length lent → at + length text ≤ length lent
+unfolding writtenOf putAt
+written-within lent at text h e same =
+    omega (
+      arith,
+      ap length (ap (λ (w : Written). w .bytes) e),
+      length-append (take at lent ++ text) (drop (at + length text) lent),
+      length-append (take at lent) text,
+      length-take-le at lent h,
+    )
 
 module _ {lent : List ℕ} {at : ℕ} {text : List ℕ} {next : ℕ} {after : List ℕ} (w : Wrote lent at text next after) where
   pub wrote-whole : written next after ≡ writtenOf lent at text

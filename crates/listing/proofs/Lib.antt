@@ -1,0 +1,7 @@
+pub mod Lengths
+pub mod Reading
+pub mod Costs
+pub mod Lines
+pub mod Listing
+pub mod Rows
+pub mod Replaying

@@ -1,0 +1,58 @@
+-- Document 01, "Worked instructions": the lines that the tools print. The Rust has none. Every line ends in a newline.
+--
+--   newline                      ==  the end of a line
+--   refusalLine refusal          ==  `refused N at P`: the number and the place of a refusal   "as `refused 1 at 0` for longer input"
+--   headerLine                   ==  `index opcode clocks`
+--   retirementLine index op n    ==  the index, the opcode and the clocks n of a retirement    "Opcodes are four upper-case hex digits, the rest
+--                                                                                              decimal"
+--   totalLine count sum          ==  `total`, the number of retirements, the sum of their costs
+--   opcodesOf es                 ==  the opcodes of the retirements among the events, in order
+--   linesFrom index ops ns       ==  a line for each retirement, with the opcodes ops and the costs ns, the first of them with this index
+--                                                                                              "the index counts retirements from 0"
+--   hexBytesOf bytes             ==  bytes in upper-case hexadecimal, "two digits a byte with nothing between"
+--   hexRows rows bytes           ==  the bytes in so many lines, "32 bytes to a line" as long as there are so many
+use Prim.Native.Nat.{ℕ, zero, suc, _+_}
+use mathlib.Core.List.{List, [], _∷_, _++_}
+use lib.ListN.{take, drop}
+use Rattle.text.specs.Written.{textOf}
+use Rattle.text.specs.Decimal.{decimalOf}
+use Rattle.text.specs.Hex.{hexOf, hexByteOf}
+use Rattle.step.specs.declared.Event.{Event}
+use Rattle.step.specs.declared.Event.the-variants.{Retired, Broken, ClearedAll, ClearedUser}
+use Rattle.outcome.specs.declared.Refusal.{Refusal}
+use Rattle.outcome.specs.Refusals.{numberOf, placeOf}
+
+abbrev pub newline : List ℕ
+newline = textOf "\n"
+
+abbrev pub refusalLine : Refusal → List ℕ
+refusalLine refusal = textOf "refused " ++ decimalOf (numberOf refusal) ++ textOf " at " ++ decimalOf (placeOf refusal) ++ newline
+
+abbrev pub headerLine : List ℕ
+headerLine = textOf "index opcode clocks" ++ newline
+
+abbrev pub retirementLine : ℕ → ℕ → ℕ → List ℕ
+retirementLine index op n = decimalOf index ++ textOf " " ++ hexOf op ++ textOf " " ++ decimalOf n ++ newline
+
+abbrev pub totalLine : ℕ → ℕ → List ℕ
+totalLine count sum = textOf "total " ++ decimalOf count ++ textOf " " ++ decimalOf sum ++ newline
+
+abbrev pub opcodesOf : List Event → List ℕ
+opcodesOf [] = []
+opcodesOf (Retired r ∷ es) = r .op ∷ opcodesOf es
+opcodesOf (Broken ∷ es) = opcodesOf es
+opcodesOf (ClearedAll ∷ es) = opcodesOf es
+opcodesOf (ClearedUser ∷ es) = opcodesOf es
+
+unfoldable pub linesFrom : ℕ → List ℕ → List ℕ → List ℕ
+linesFrom index [] ns = []
+linesFrom index (op ∷ ops) [] = []
+linesFrom index (op ∷ ops) (n ∷ ns) = retirementLine index op n ++ linesFrom (index + 1) ops ns
+
+unfoldable pub hexBytesOf : List ℕ → List ℕ
+hexBytesOf [] = []
+hexBytesOf (byte ∷ bytes) = hexByteOf byte ++ hexBytesOf bytes
+
+unfoldable pub hexRows : ℕ → List ℕ → List ℕ
+hexRows zero bytes = []
+hexRows (suc rows) bytes = hexBytesOf (take 32 bytes) ++ newline ++ hexRows rows (drop 32 bytes)

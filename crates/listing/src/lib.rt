@@ -1,0 +1,246 @@
+// Part 6 of document 01: the text that the cost lister and the replay print.
+ghost use mathlib.Core.Path.{_≡_};
+ghost use mathlib.Core.List.{_++_};
+ghost use Prim.Native.Nat.{_+_, _*_, _≤_, min};
+ghost use lib.ListN.{length, take, drop};
+ghost use Rattle.little_endian.specs.Numbers.{putAt};
+ghost use Rattle.text.specs.Decimal.{decimalOf};
+ghost use Rattle.text.specs.Written.{written, writtenOf};
+ghost use Rattle.trace.specs.Trace.{readTrace};
+ghost use Rattle.trace.specs.Run.{Fits};
+ghost use Rattle.listing.specs.Lines.{newline, refusalLine, headerLine, retirementLine, totalLine, hexBytesOf, hexRows};
+ghost use Rattle.listing.specs.Listing.{judgedOf, outcome, listTraceOf};
+ghost use Rattle.listing.specs.Replay.{shown, replayOf};
+ghost use Rattle.listing.specs.Inner.{linesOf};
+use image::IMAGE_LENGTH;
+use outcome::Refusal;
+use outcome::Verdict;
+use step::Event;
+use step::Oep060Timing;
+use trace::Read;
+
+// The longest trace that the tools take.
+const MOST_BYTES: usize = 65536;
+
+// Room for the longest text: 3,276 retirements of 20 bytes, a line of at most 20 characters each, the header and the total.
+pub const LISTING_ROOM: usize = 65600;
+
+// And the 1,288 bytes of an image, two digits each, in 41 lines.
+pub const REPLAY_ROOM: usize = 68224;
+
+// What listing a trace gives.
+pub struct Listed {
+    pub verdict: Verdict,
+    // How many bytes of text there are.
+    pub len: usize,
+    // The next state.
+    pub timing: Oep060Timing,
+}
+
+// A line of two numbers, each behind its words. A number has 20 digits at most.
+fn put_numbers(out: &mut [u8], at: usize, before: &[u8], a: u64, between: &[u8], b: u64) -> usize
+    requires { ⌜ at + length (now before) + length (now between) + 41 ≤ length (now out) ⌝ }
+    ensures { λ r. ⌜ written r (now (out .exit)) ≡ writtenOf (now (out .entry)) at (now (before .entry) ++ decimalOf a ++ now (between .entry) ++ decimalOf b ++ newline) ⌝ }
+{
+    let p = text::put_bytes(out, at, before);
+    let q = text::put_decimal(out, p, a);
+    let r = text::put_bytes(out, q, between);
+    let s = text::put_decimal(out, r, b);
+    text::put_bytes(out, s, b"\n")
+}
+
+// `refused N at P`
+fn put_refusal(out: &mut [u8], at: usize, refusal: Refusal) -> usize
+    requires { ⌜ at + 53 ≤ length (now out) ⌝ }
+    ensures { λ r. ⌜ written r (now (out .exit)) ≡ writtenOf (now (out .entry)) at (refusalLine refusal) ⌝ }
+{
+    let number = outcome::number(refusal);
+    let place = outcome::place(refusal);
+    put_numbers(out, at, b"refused ", number as u64, b" at ", place as u64)
+}
+
+// The index, the opcode and the clocks of a retirement.
+fn put_line(out: &mut [u8], at: usize, index: usize, op: u16, clocks: u32) -> usize
+    requires { ⌜ at + length (retirementLine index op clocks) ≤ length (now out) ⌝ }
+    ensures { λ r. ⌜ written r (now (out .exit)) ≡ writtenOf (now (out .entry)) at (retirementLine index op clocks) ⌝ }
+{
+    let a = text::put_decimal(out, at, index as u64);
+    let b = text::put_bytes(out, a, b" ");
+    let c = text::put_hex4(out, b, op);
+    let d = text::put_bytes(out, c, b" ");
+    let e = text::put_decimal(out, d, clocks as u64);
+    text::put_bytes(out, e, b"\n")
+}
+
+// A line for each retirement of a trace whose records are all sound, with the costs as bytes.
+fn put_lines(trace: &[u8], costs: &[u8], out: &mut [u8], start: usize) -> usize
+    requires { ⌜ Fits 0 (length (now costs)) (readTrace (now trace)) ⌝ }
+    requires { ⌜ start + length (linesOf 0 (now costs) (readTrace (now trace))) ≤ length (now out) ⌝ }
+    ensures { λ r. ⌜ written r (now (out .exit)) ≡ writtenOf (now (out .entry)) start (linesOf 0 (now (costs .entry)) (readTrace (now (trace .entry)))) ⌝ }
+{
+    let mut place = start;
+    let mut at: usize = 0;
+    let mut index: usize = 0;
+    loop {
+        let read = trace::read_record(trace, at);
+        match read {
+            Read::End => {
+                return place;
+            }
+            Read::Bad(_) => {
+                return place;
+            }
+            Read::Got(e, next) => {
+                at = next;
+                match e {
+                    Event::Retired(r) => {
+                        let clocks = little_endian::u32_at(costs, 4 * index);
+                        place = put_line(out, place, index, r.op, clocks);
+                        index += 1;
+                    }
+                    Event::Broken => {}
+                    Event::ClearedAll => {}
+                    Event::ClearedUser => {}
+                }
+            }
+        }
+    }
+}
+
+// The whole text of a trace whose records are all sound.
+fn put_table(trace: &[u8], costs: &[u8], out: &mut [u8], count: usize, sum: u64) -> usize
+    requires { ⌜ Fits 0 (length (now costs)) (readTrace (now trace)) ⌝ }
+    requires { ⌜ length (linesOf 0 (now costs) (readTrace (now trace))) + 68 ≤ length (now out) ⌝ }
+    ensures { λ r. ⌜ written r (now (out .exit)) ≡ writtenOf (now (out .entry)) 0 (headerLine ++ linesOf 0 (now (costs .entry)) (readTrace (now (trace .entry))) ++ totalLine count sum) ⌝ }
+{
+    let a = text::put_bytes(out, 0, b"index opcode clocks\n");
+    let b = put_lines(trace, costs, out, a);
+    put_numbers(out, b, b"total ", count as u64, b" ", sum)
+}
+
+// Lists a trace into lent bytes that have room for any.
+fn list_into(trace: &[u8], out: &mut [u8], timing: Oep060Timing) -> Listed
+    requires { ⌜ 65600 ≤ length (now out) ⌝ }
+    ensures { λ r. ⌜ outcome r (now (out .exit)) ≡ listTraceOf (now (trace .entry)) (now (out .entry)) timing ⌝ }
+{
+    if MOST_BYTES < trace.len() {
+        let given = timing.seen();
+        let len = put_refusal(out, 0, Refusal::Oversized);
+        return Listed {
+            verdict: Verdict::Refused(Refusal::Oversized),
+            len,
+            timing: given,
+        };
+    }
+    let mut costs = [0u8; 13104];
+    let ran = trace::run_trace(trace, &mut costs, timing);
+    let verdict = ran.verdict;
+    let next = ran.timing;
+    match verdict {
+        Verdict::Refused(refusal) => {
+            let len = put_refusal(out, 0, refusal);
+            Listed {
+                verdict: Verdict::Refused(refusal),
+                len,
+                timing: next,
+            }
+        }
+        Verdict::Accepted => {
+            let len = put_table(trace, &costs, out, ran.count, ran.total);
+            Listed {
+                verdict: Verdict::Accepted,
+                len,
+                timing: next,
+            }
+        }
+    }
+}
+
+// A row of bytes in hexadecimal: `count` bytes from the place `from` on.
+fn put_row(out: &mut [u8], start: usize, bytes: &[u8], from: usize, count: usize) -> usize
+    requires { ⌜ from + count ≤ length (now bytes) ⌝ }
+    requires { ⌜ start + 2 * count + 1 ≤ length (now out) ⌝ }
+    ensures { λ r. ⌜ written r (now (out .exit)) ≡ writtenOf (now (out .entry)) start (hexBytesOf (take count (drop from (now (bytes .entry)))) ++ newline) ⌝ }
+{
+    let mut place = start;
+    let mut i: usize = 0;
+    while i < count {
+        place = text::put_hex2(out, place, bytes[from + i]);
+        i += 1;
+    }
+    text::put_bytes(out, place, b"\n")
+}
+
+// An image in rows of 32 bytes; the last has 8.
+fn put_rows(out: &mut [u8], start: usize, image: &[u8]) -> usize
+    requires { ⌜ length (now image) ≡ 1288 ⌝ }
+    requires { ⌜ start + 2617 ≤ length (now out) ⌝ }
+    ensures { λ r. ⌜ written r (now (out .exit)) ≡ writtenOf (now (out .entry)) start (hexRows 41 (now (image .entry))) ⌝ }
+{
+    let mut place = start;
+    let mut row: usize = 0;
+    while row < 40 {
+        place = put_row(out, place, image, 32 * row, 32);
+        row += 1;
+    }
+    put_row(out, place, image, 1280, 8)
+}
+
+// The replay's text from the state that was read.
+fn replay_from(trace: &[u8], out: &mut [u8], timing: Oep060Timing) -> usize
+    requires { ⌜ 68224 ≤ length (now out) ⌝ }
+    ensures { λ r. ⌜ written r (now (out .exit)) ≡ writtenOf (now (out .entry)) 0 (shown (judgedOf (now (trace .entry))) timing) ⌝ }
+{
+    let listed = list_into(trace, out, timing);
+    let verdict = listed.verdict;
+    let len = listed.len;
+    let next = listed.timing;
+    match verdict {
+        Verdict::Refused(_) => len,
+        Verdict::Accepted => {
+            let mut bytes = [0u8; 1288];
+            image::image_write(next, &mut bytes);
+            put_rows(out, len, &bytes)
+        }
+    }
+}
+
+// The image is judged first.
+fn replay_into(input: &[u8], out: &mut [u8]) -> usize
+    requires { ⌜ 68224 ≤ length (now out) ⌝ }
+    ensures { λ r. ⌜ written r (now (out .exit)) ≡ writtenOf (now (out .entry)) 0 (replayOf (now (input .entry))) ⌝ }
+{
+    let size = least(input.len(), IMAGE_LENGTH);
+    let read = image::image_read(&input[..size]);
+    let verdict = read.verdict;
+    let timing = read.timing;
+    match verdict {
+        Verdict::Refused(refusal) => {
+            let at = text::put_bytes(out, 0, b"image ");
+            put_refusal(out, at, refusal)
+        }
+        Verdict::Accepted => replay_from(&input[size..], out, timing),
+    }
+}
+
+fn least(a: usize, b: usize) -> usize
+    ensures { λ r. ⌜ r ≡ min a b ⌝ }
+{
+    if a < b { a } else { b }
+}
+
+// The cost lister's text: its length, and in the lent bytes the text itself; bytes beyond it stay.
+pub fn list_trace(trace: &[u8], text: &mut [u8; LISTING_ROOM], timing: Oep060Timing) -> Listed
+    ensures { λ r. ⌜ outcome r (now (text .exit)) ≡ listTraceOf (now (trace .entry)) (now (text .entry)) timing ⌝ }
+    ensures { λ r. ⌜ r .len ≤ length (now (text .exit)) ⌝ }
+{
+    list_into(trace, text, timing)
+}
+
+// The replay's text: its length, and in the lent bytes the text itself; bytes beyond it stay.
+pub fn replay_text(input: &[u8], text: &mut [u8; REPLAY_ROOM]) -> usize
+    ensures { λ r. ⌜ written r (now (text .exit)) ≡ writtenOf (now (text .entry)) 0 (replayOf (now (input .entry))) ⌝ }
+    ensures { λ r. ⌜ r ≤ length (now (text .exit)) ⌝ }
+{
+    replay_into(input, text)
+}
