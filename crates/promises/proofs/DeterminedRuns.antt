@@ -5,6 +5,8 @@ use contract.Lifetimes
 use denote.Ref.{now}
 use Rattle.trace.specs.Run as run
 use Rattle.image.specs.Entries as image
+use Rattle.text.specs.Written.{written}
+use Rattle.listing.specs.Listing as listing
 use Rattle.promises.specs.Determined.{Determined, result}
 use Rattle.little_endian.proofs.u16_at.Reads as u16-at
 use Rattle.little_endian.proofs.u32_at.Reads as u32-at
@@ -15,6 +17,12 @@ use Rattle.trace.proofs.read_record.Reads as read-record
 use Rattle.trace.proofs.run_trace.Reads as run-trace
 use Rattle.image.proofs.image_write.Reads as image-write
 use Rattle.image.proofs.image_read.Reads as image-read
+use Rattle.text.proofs.put_bytes.Reads as put-bytes
+use Rattle.text.proofs.put_hex4.Reads as put-hex4
+use Rattle.text.proofs.put_hex2.Reads as put-hex2
+use Rattle.text.proofs.put_decimal.Reads as put-decimal
+use Rattle.listing.proofs.list_trace.Reads as list-trace
+use Rattle.listing.proofs.replay_text.Reads as replay-text
 
 module _ (κs : Lifetimes.Lfts 0) where
   pub i32-of-determined : Determined result (i32-of.Post κs)
@@ -45,3 +53,24 @@ module _ (κs : Lifetimes.Lfts 1) where
 module _ (κs : Lifetimes.Lfts 2) where
   pub run-trace-determined : Determined (λ r x. run.outcome r (now (x .1 .0))) (run-trace.Post κs)
   run-trace-determined i r r′ x x′ p q = p ∙ sym q
+
+-- what the tools print
+module _ (κs : Lifetimes.Lfts 1) where
+  pub put-hex4-determined : Determined (λ r x. written r (now (x .0))) (put-hex4.Post κs)
+  put-hex4-determined i r r′ x x′ p q = p ∙ sym q
+
+  pub put-hex2-determined : Determined (λ r x. written r (now (x .0))) (put-hex2.Post κs)
+  put-hex2-determined i r r′ x x′ p q = p ∙ sym q
+
+  pub put-decimal-determined : Determined (λ r x. written r (now (x .0))) (put-decimal.Post κs)
+  put-decimal-determined i r r′ x x′ p q = p ∙ sym q
+
+module _ (κs : Lifetimes.Lfts 2) where
+  pub put-bytes-determined : Determined (λ r x. written r (now (x .0))) (put-bytes.Post κs)
+  put-bytes-determined i r r′ x x′ p q = p ∙ sym q
+
+  pub list-trace-determined : Determined (λ r x. listing.outcome r (now (x .1 .0))) (list-trace.Post κs)
+  list-trace-determined i r r′ x x′ p q = p .0 ∙ sym (q .0)
+
+  pub replay-text-determined : Determined (λ r x. written r (now (x .1 .0))) (replay-text.Post κs)
+  replay-text-determined i r r′ x x′ p q = p .0 ∙ sym (q .0)

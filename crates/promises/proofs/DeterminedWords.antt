@@ -23,6 +23,7 @@ use Rattle.classifier.proofs.info_060.Reads as classifier-info-060
 use Rattle.masks.proofs.reg_masks_060.Reads as masks-reg-masks-060
 use Rattle.text.proofs.hex_digit.Reads as text-hex-digit
 use Rattle.text.proofs.hex4.Reads as text-hex4
+use Rattle.text.proofs.hex2.Reads as text-hex2
 
 -- a class is known by its number
 classAt : ℕ → OepClass
@@ -77,3 +78,6 @@ module _ (κs : Lifetimes.Lfts 0) where
 
   pub text-hex4-determined : Determined result (text-hex4.Post κs)
   text-hex4-determined i r r′ x x′ p q = p ∙ sym q
+
+  pub text-hex2-determined : Determined result (text-hex2.Post κs)
+  text-hex2-determined i r r′ x x′ p q = p ∙ sym q
