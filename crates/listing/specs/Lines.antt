@@ -9,8 +9,8 @@
 --   opcodesOf es                 ==  the opcodes of the retirements among the events, in order
 --   linesFrom index ops ns       ==  a line for each retirement, with the opcodes ops and the costs ns, the first of them with this index
 --                                                                                              "the index counts retirements from 0"
---   hexBytesOf bytes             ==  bytes in upper-case hexadecimal, "two digits a byte with nothing between"
---   hexRows rows bytes           ==  the bytes in so many lines, "32 bytes to a line" as long as there are so many
+--   hexBytesOf bytes             ==  bytes in upper-case hexadecimal, two digits a byte with nothing between
+--   hexRows rows bytes           ==  the bytes in so many lines, 32 bytes to a line as long as there are so many
 use Prim.Native.Nat.{ℕ, zero, suc, _+_}
 use mathlib.Core.List.{List, [], _∷_, _++_}
 use lib.ListN.{take, drop}

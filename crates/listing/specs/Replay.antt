@@ -1,12 +1,13 @@
--- The replay's whole output. The Rust has none, and document 01 neither: "Standard input is an image, its first 1,288 bytes, and then a trace of
--- at most 65,536 bytes. It prints what the lister prints, started from that state, and then the next state's image in upper-case hexadecimal".
+-- The replay's whole output. The tool is the project's own, beside document 01's cost lister, and its rules are these: standard input is an
+-- image, its first 1,288 bytes, and then a trace of at most 65,536 bytes. The output is what the lister prints, started from the image's state,
+-- and then the next state's image. The image is judged first, then the trace; a refusal is the whole output. The Rust has none.
 --
---   imageIn input     ==  the image: "its first 1,288 bytes", or all of it where it has fewer, which is refusal 8
---   traceIn input     ==  the trace: what follows, so that places are "counted from the trace's first byte"
---   imageLines t      ==  the image of the state t in hexadecimal: 41 lines, "32 bytes to a line (the last line has 8)"
---   shown said t      ==  the output by what the trace said: "`refused N at P` is the whole output"
---   replayBy v input  ==  the output by the verdict on the image: "`image refused N at P` is then the whole output"
---   replayOf input    ==  the whole output                      "The image is judged first"; "then the trace"
+--   imageIn input      ==  the image: the first 1,288 bytes, or all of the input where it has fewer, which is refusal 8
+--   traceIn input      ==  the trace: what follows; its places are counted from its own first byte
+--   imageLines t       ==  the image of the state t in hexadecimal: 40 lines of 32 bytes and a last one of 8
+--   shown said t       ==  the output by what the trace said, from the state t
+--   replayBy v input   ==  the output by the verdict on the image: `image refused N at P`, or what follows from its state
+--   replayOf input     ==  the whole output
 use Prim.Native.Nat.{ℕ}
 use mathlib.Core.List.{List, _++_}
 use lib.ListN.{take, drop}

@@ -3,7 +3,6 @@ ghost use mathlib.Core.Path.{_≡_};
 ghost use mathlib.Core.List.{_++_};
 ghost use Prim.Native.Nat.{_+_, _*_, _≤_, min};
 ghost use lib.ListN.{length, take, drop};
-ghost use Rattle.little_endian.specs.Numbers.{putAt};
 ghost use Rattle.text.specs.Decimal.{decimalOf};
 ghost use Rattle.text.specs.Written.{written, writtenOf};
 ghost use Rattle.trace.specs.Trace.{readTrace};
@@ -87,6 +86,7 @@ fn put_lines(trace: &[u8], costs: &[u8], out: &mut [u8], start: usize) -> usize
             Read::End => {
                 return place;
             }
+            // No record is refused: all are sound.
             Read::Bad(_) => {
                 return place;
             }
@@ -132,6 +132,7 @@ fn list_into(trace: &[u8], out: &mut [u8], timing: Oep060Timing) -> Listed
             timing: given,
         };
     }
+    // 4 bytes for each retirement that such a trace can have.
     let mut costs = [0u8; 13104];
     let ran = trace::run_trace(trace, &mut costs, timing);
     let verdict = ran.verdict;

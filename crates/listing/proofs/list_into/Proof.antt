@@ -1,8 +1,6 @@
 -- `list_into`: the size, then what the run found; the text is the refusal, or the table.
 -- Assumes nothing.
-use mathlib.Core.Path.{sym, _∙_}
 use native.Mathlib.Omega.{arith}
-use lib.ListN.{length, length-replicate}
 use Rattle.listing.proofs.Listing.{listed-large, listed-refused, listed-fits, listed-room, listed-accepted}
 use borrow.Author.Needs.{needs}
 use Rattle.listing.proofs.list_into.Statement.{statement}

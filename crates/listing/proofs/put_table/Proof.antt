@@ -1,9 +1,8 @@
 -- `put_table`: the header, the lines and the total, each written behind the one before it.
 -- Assumes nothing.
-use Prim.Native.Nat.{_+_, _≤_}
 use mathlib.Core.List.{_++_}
 use native.Mathlib.Omega.{arith}
-use lib.ListN.{length, length-append}
+use lib.ListN.{length-append}
 use Rattle.text.proofs.Writing.{Wrote, wrote, wrote-more, wrote-whole}
 use Rattle.trace.specs.Trace.{readTrace}
 use Rattle.listing.specs.Lines.{headerLine, totalLine}
