@@ -1,5 +1,6 @@
 -- A rule as rows tried in order: "The Rust's test order within a group counts".
 --
+--   Rows A                 ==  rows that answer something of the kind A
 --   test ⇒ answer ⨾ rows   ==  the answer where the test holds, else what the later rows say
 --   otherwise answer       ==  the last row, which holds always
 --   first rows             ==  the answer of the first row whose test holds

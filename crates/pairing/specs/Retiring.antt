@@ -9,7 +9,7 @@
 --                                                                      `flowed` ignored"
 --   predictsTaken a    ==  the cache predicted the branch taken; a miss does not (the Rust's `predict(..).unwrap_or(false)`), nor does a cache
 --                          that was not asked
---   kindOf i k         ==  which of the three points of "One retirement" it is:
+--   Kind, kindOf i k   ==  which of the three points of "One retirement" it is:
 --                          `branch` "1. BRANCH", `flow` "2. Else, flowed", `neither` "3. Else"
 use Prim.Native.Nat.{_+_, _%_, _^_}
 use mathlib.Core.Bool.{Bool, true, false, not, cond}

@@ -1,5 +1,6 @@
 -- Document 01, "Records and images": what holds of every run of a trace.
 --
+--   Stepped        ==  costs, and a state
 --   stepped t es   ==  the costs of the events es stepped one by one from the state t, and the state after the last
 --   EveryTrace     ==  the facts, each for every trace, room and state
 --

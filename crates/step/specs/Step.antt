@@ -3,6 +3,7 @@
 --   stateOf t, timingOf s   ==  the state that a struct holds, and the struct that holds a state
 --   timingAt ts bs w        ==  the struct of these tags, bytes and window
 --   steppedAt ts bs r       ==  the next state of these tags and bytes and r's window, and r's cost
+--   slotState w slot        ==  the state of a window and one slot
 --   turnedOf w slot i k     ==  window, slot and cost after an instruction retires, from the window and the slot of its ppc alone
 --   steppedBy t i k         ==  the whole state and the cost after an instruction retires
 --   steppedOf t r           ==  the same for a retirement in the crate's profile
