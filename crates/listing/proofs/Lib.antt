@@ -3,5 +3,6 @@ pub mod Reading
 pub mod Costs
 pub mod Lines
 pub mod Listing
+pub mod Within
 pub mod Rows
 pub mod Replaying

@@ -19,17 +19,9 @@ use Rattle.trace.specs.Trace.{Trace, events, refused, ahead, readFrom, countOf}
 use Rattle.trace.specs.Run.{Fits}
 use Rattle.trace.proofs.Reading.{got-within}
 use Rattle.trace.proofs.Walking.{from-end, from-bad, from-got}
-use Rattle.trace.proofs.Counting.{count-cons}
+use Rattle.trace.proofs.Running.{fits-ahead, fits-room}
 use Rattle.listing.specs.Lines.{retirementLine}
 use Rattle.listing.specs.Inner.{linesRead, linesOf}
-
-fits-ahead : (k room : ℕ) (e : Event) (said : Trace) → Fits k room (ahead e said) → Fits (k + countOf (e ∷ [])) room said
-fits-ahead k room e (events es) h = omega (arith, count-cons e es)
-fits-ahead k room e (refused refusal) h = h
-
-fits-room : (k room : ℕ) (said : Trace) → Fits k room said → 4 * k ≤ room
-fits-room k room (events es) h = omega arith
-fits-room k room (refused refusal) h = absurd h
 
 no-line : (k : ℕ) (bytes : List ℕ) (e : Event) (es : List Event) → countOf (e ∷ []) ≡ 0 → linesRead k bytes (e ∷ es) ≡ linesRead k bytes es
 no-line k bytes (Retired r) es z = absurd (omega arith)

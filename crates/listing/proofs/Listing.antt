@@ -2,16 +2,13 @@
 -- Assumes nothing.
 use Prim.Native.Nat.{ℕ, _+_, _*_, _≤_, _<_}
 use mathlib.Core.Path.{_≡_, refl, sym, ap, subst, _∙_}
-use mathlib.Core.Bool.{Bool, true, false}
 use mathlib.Core.List.{List, _++_}
 use native.Mathlib.Nat.{zero-add}
 use native.Mathlib.Omega.{arith}
 use lib.ListN.{length, length-append}
-use lib.Dec.{ltb}
-use borrow.Author.Tests.{lt-ltb, le-ltb, ltb-true, ltb-false}
+use borrow.Author.Tests.{lt-ltb, le-ltb}
 use Rattle.little_endian.specs.Numbers.{putAt}
 use Rattle.text.specs.Written.{Written, written, writtenOf}
-use Rattle.text.proofs.Writing.{written-within}
 use Rattle.step.specs.declared.Event.{Event}
 use Rattle.step.specs.declared.Oep060Timing.{Oep060Timing}
 use Rattle.step.specs.Events.{total}
@@ -24,9 +21,8 @@ use Rattle.trace.specs.Record.{remaining}
 use Rattle.trace.specs.Trace.{Trace, events, refused, readTrace, countOf}
 use Rattle.trace.specs.Run as run
 use Rattle.trace.specs.Run.{costsOf, Fits, withRoom, judged, runTraceOf}
-use Rattle.listing.specs.declared.Listed.{Listed}
 use Rattle.listing.specs.Lines.{headerLine, refusalLine, totalLine, opcodesOf, linesFrom}
-use Rattle.listing.specs.Listing.{Outcome, judgedOf, tableOf, textBy, verdictBy, timingBy, outcome, outcomeBy}
+use Rattle.listing.specs.Listing.{judgedOf, tableOf, textBy, verdictBy, timingBy, outcome, outcomeBy}
 use Rattle.listing.specs.Inner.{linesRead, linesOf}
 use Rattle.listing.proofs.Lengths.{total-most}
 use Rattle.listing.proofs.Reading.{Short, short}
@@ -50,7 +46,7 @@ listed : (said : Trace) (out : List ℕ) (t : Oep060Timing) {n : ℕ} {after : L
 unfolding writtenOf
 listed said out t e = rw (ap (λ (w : Written). w .next) e ∙ zero-add (length (textBy said t)), ap (λ (w : Written). w .bytes) e)
 
-judged-large : (trace : List ℕ) → 65536 < length trace → judgedOf trace ≡ refused Oversized
+pub judged-large : (trace : List ℕ) → 65536 < length trace → judgedOf trace ≡ refused Oversized
 unfolding judgedOf
 judged-large trace h = simp (lt-ltb _ _ h)
 
@@ -114,7 +110,7 @@ module _ (trace : List ℕ) (h : length trace ≤ 65536) where
   judged-same = simp (le-ltb _ _ h)
 
   -- the whole text of a trace that is accepted
-  text-most : (t : Oep060Timing) {es : List Event} → judgedOf trace ≡ events es → length (tableOf es t) ≤ 65588
+  pub text-most : (t : Oep060Timing) {es : List Event} → judgedOf trace ≡ events es → length (tableOf es t) ≤ 65588
   text-most t {es} e = table-most (remaining trace 0) es t small (subst (Short (remaining trace 0)) (sym judged-same ∙ e) (short trace))
 
   module _ (lent : List ℕ) {bytes : List ℕ} (t : Oep060Timing) {ran : Ran} (big : 13104 ≤ length lent) (e : run.outcome ran bytes ≡ runTraceOf trace lent t) where
@@ -141,25 +137,3 @@ module _ (trace : List ℕ) (h : length trace ≤ 65536) where
         → written n after ≡ writtenOf out 0 (headerLine ++ linesOf 0 bytes (readTrace trace) ++ totalLine (ran .count) (ran .total))
         → outcome (record { verdict = Accepted; len = n; timing = ran .timing }) after ≡ outcomeBy (judgedOf trace) out t
     listed-accepted v out d = rw judged-same (gave-accepted (remaining trace 0) small lent bytes t ran v (readTrace trace) gave out d)
-
--- only a trace within the limit is accepted
-pub text-fits : (trace : List ℕ) (t : Oep060Timing) {es : List Event} → judgedOf trace ≡ events es → length (tableOf es t) ≤ 65588
-text-fits trace t {es} e = go (ltb 65536 (length trace)) refl
-  where
-    go : (b : Bool) → ltb 65536 (length trace) ≡ b → length (tableOf es t) ≤ 65588
-    go true q =
-        let large = judged-large trace (ltb-true 65536 (length trace) q) in
-        let z : _≡_ {A = ℕ} 0 1 = cc in
-        absurd (omega arith)
-    go false q = text-most trace (ltb-false 65536 (length trace) q) t e
-
-pub listed-text : (said : Trace) (out : List ℕ) (t : Oep060Timing) {r : Listed} {after : List ℕ} → outcome r after ≡ outcomeBy said out t
-    → written (r .len) after ≡ writtenOf out 0 (textBy said t)
-unfolding writtenOf
-listed-text said out t e = rw (ap (λ (o : Outcome). o .answer .len) e, ap (λ (o : Outcome). o .lent) e, zero-add (length (textBy said t)))
-
--- the text lies within the lent bytes
-pub listed-within : (said : Trace) (out : List ℕ) (t : Oep060Timing) {r : Listed} {after : List ℕ} → outcome r after ≡ outcomeBy said out t
-    → length after ≡ length out → r .len ≤ length out
-listed-within said out t e same =
-    omega (arith, ap (λ (o : Outcome). o .answer .len) e, written-within out 0 (textBy said t) (omega arith) (listed-text said out t e) same)

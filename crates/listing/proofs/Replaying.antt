@@ -32,7 +32,7 @@ use Rattle.listing.specs.Lines.{refusalLine, hexRows}
 use Rattle.listing.specs.Listing.{Outcome, outcome, outcomeBy, judgedOf, tableOf}
 use Rattle.listing.specs.Replay.{imageIn, traceIn, shown, replayBy, replayOf}
 use Rattle.listing.proofs.Rows.{rows-length}
-use Rattle.listing.proofs.Listing.{text-fits, listed-text}
+use Rattle.listing.proofs.Within.{text-fits, listed-text}
 
 -- ---- the image that is written
 image-long : (t : Oep060Timing) → length (t .cache .tags) ≡ 256 → length (t .cache .state) ≡ 256 → length (imageOf t) ≡ 1288

@@ -2,7 +2,7 @@
 -- Assumes nothing.
 use native.Mathlib.Omega.{arith}
 use Rattle.listing.specs.Listing.{judgedOf}
-use Rattle.listing.proofs.Listing.{listed-within}
+use Rattle.listing.proofs.Within.{listed-within}
 use borrow.Author.Needs.{needs}
 use Rattle.listing.proofs.list_trace.Statement.{statement}
 use Rattle.listing.proofs.list_trace.Tie as tie

@@ -1,12 +1,14 @@
 -- `put_lines`: the writing as it goes on (`Going`), record by record; the record that would be refused cannot come. The measure is what is left.
 -- Assumes nothing.
 use Prim.Native.Nat.{_-_}
-use mathlib.Core.Path.{refl, sym, ap, _∙_}
+use mathlib.Core.Path.{_≡_, refl, sym, ap, _∙_}
 use mathlib.Core.List.{[], _∷_}
 use native.Mathlib.Omega.{arith}
 use borrow.Author.Needs.{needs}
 use lib.ListN.{length}
 use Rattle.step.specs.declared.Event.{Event}
+use Rattle.trace.specs.declared.Read.the-variants.{Got}
+use Rattle.trace.specs.Record.{readAt}
 use Rattle.trace.specs.Trace.{countOf}
 use Rattle.listing.proofs.Lines.{Going, going-end, going-bad, going-nearer, going-quiet, going-cost, going-room, going-line}
 use Rattle.listing.proofs.put_lines.Statement.{statement}
@@ -17,6 +19,19 @@ Inv-loop trace costs out₀ start place₀ at₀ index₀ out place at index = G
 
 abbrev μ-loop : tie.MeasureT-loop
 μ-loop trace costs out₀ start place₀ at₀ index₀ out place at index = length trace - at
+
+-- where a record was read: the writing before it, and what was read
+abbrev Here : Type 0
+Here = tie.After-read Inv-loop μ-loop
+
+going : (k : Here) → let l = k .before .before .before in let a = l .before .before .before .before .args in Going (a .trace .now) (a .costs .now) (a .out .now) (a .start) (l .loop .out) (l .loop .place) (l .loop .at) (l .loop .index)
+going k = k .before .before .before .loop .inv
+
+got : (k : Here) → let l = k .before .before .before in readAt (l .before .before .before .before .args .trace .now) (l .loop .at) ≡ Got (k .read .given .0 .0) (k .read .given .0 .1 .0)
+got k = sym (k .before .before .read-record .ensures) ∙ k .read .given .1
+
+quiet : {e f : Event} → e ≡ f → countOf (e ∷ []) ≡ countOf (f ∷ [])
+quiet q = ap (λ (e : Event). countOf (e ∷ [])) q
 
 loop-holds : tie.Need-loop-holds Inv-loop μ-loop
 loop-holds c =
@@ -55,114 +70,51 @@ enum-known-e : tie.Need-enum-known-e Inv-loop μ-loop
 enum-known-e c = search needs
 
 mul-u32-at : tie.Need-mul-u32-at Inv-loop μ-loop
-mul-u32-at c =
-    let k = c .before .before .before .before in
-    let a = k .before .before in
-    let g = a .before .loop .inv in
-    let q = sym (a .read-record .ensures) ∙ k .read .given .1 in
-    let e = c .before .e .given .1 in
-    omega (arith, going-cost g q e, a .before .before .before .before .before .good)
+mul-u32-at c = omega (arith, going-cost (going (c .before .before .before .before)) (got (c .before .before .before .before)) (c .before .e .given .1), c .before .before .before .before .before .before .before .before .before .before .before .good)
 
 u32-at-requires : tie.Need-u32-at-requires Inv-loop μ-loop
-u32-at-requires c κs =
-    let k = c .before .before .before .before in
-    let a = k .before .before in
-    let g = a .before .loop .inv in
-    let q = sym (a .read-record .ensures) ∙ k .read .given .1 in
-    let e = c .before .e .given .1 in
-    going-cost g q e
+u32-at-requires c κs = going-cost (going (c .before .before .before .before)) (got (c .before .before .before .before)) (c .before .e .given .1)
 
 put-line-requires : tie.Need-put-line-requires Inv-loop μ-loop
-put-line-requires c κs =
-    let k = c .before .before .before .before .before .before in
-    let a = k .before .before in
-    let g = a .before .loop .inv in
-    let q = sym (a .read-record .ensures) ∙ k .read .given .1 in
-    let e = c .before .before .before .e .given .1 in
-    rw (c .before .u32-at .ensures) (going-room g q e)
+put-line-requires c κs = rw (c .before .u32-at .ensures) (going-room (going (c .before .before .before .before .before .before)) (got (c .before .before .before .before .before .before)) (c .before .before .before .e .given .1))
 
 add-index : tie.Need-add-index Inv-loop μ-loop
-add-index c =
-    let k = c .before .before .before .before .before .before .before .before .before in
-    let a = k .before .before in
-    let g = a .before .loop .inv in
-    let q = sym (a .read-record .ensures) ∙ k .read .given .1 in
-    let e = c .before .before .before .before .before .before .e .given .1 in
-    omega (arith, going-cost g q e, a .before .before .before .before .before .good)
+add-index c = omega (arith, going-cost (going (c .before .before .before .before .before .before .before .before .before)) (got (c .before .before .before .before .before .before .before .before .before)) (c .before .before .before .before .before .before .e .given .1), c .before .before .before .before .before .before .before .before .before .before .before .before .before .before .before .before .good)
 
 loop-less : tie.Need-loop-less Inv-loop μ-loop
-loop-less c =
-    let k = c .before .before .before .before .before .before .before .before .before in
-    let a = k .before .before in
-    let g = a .before .loop .inv in
-    let q = sym (a .read-record .ensures) ∙ k .read .given .1 in
-    going-nearer g _ _ q
+loop-less c = going-nearer (going (c .before .before .before .before .before .before .before .before .before)) _ _ (got (c .before .before .before .before .before .before .before .before .before))
 
 loop-again : tie.Need-loop-again Inv-loop μ-loop
 loop-again c =
-    let k = c .before .before .before .before .before .before .before .before .before in
-    let a = k .before .before in
-    let g = a .before .loop .inv in
-    let q = sym (a .read-record .ensures) ∙ k .read .given .1 in
-    let e = c .before .before .before .before .before .before .e .given .1 in
-    going-line g q e (rw (← c .before .before .before .before .u32-at .ensures) (c .before .before .put-line .ensures))
+    going-line (going (c .before .before .before .before .before .before .before .before .before)) (got (c .before .before .before .before .before .before .before .before .before)) (c .before .before .before .before .before .before .e .given .1)
+    (rw (← c .before .before .before .before .u32-at .ensures) (c .before .before .put-line .ensures))
 
 enum-told-3 : tie.Need-enum-told-3 Inv-loop μ-loop
 enum-told-3 c = search needs
 
 loop-less-2 : tie.Need-loop-less-2 Inv-loop μ-loop
-loop-less-2 c =
-    let k = c .before .before .before in
-    let a = k .before .before in
-    let g = a .before .loop .inv in
-    let q = sym (a .read-record .ensures) ∙ k .read .given .1 in
-    going-nearer g _ _ q
+loop-less-2 c = going-nearer (going (c .before .before .before)) _ _ (got (c .before .before .before))
 
 loop-again-2 : tie.Need-loop-again-2 Inv-loop μ-loop
-loop-again-2 c =
-    let k = c .before .before .before in
-    let a = k .before .before in
-    let g = a .before .loop .inv in
-    let q = sym (a .read-record .ensures) ∙ k .read .given .1 in
-    going-quiet g _ _ q (ap (λ (e : Event). countOf (e ∷ [])) (c .enum-told3 .given .1))
+loop-again-2 c = going-quiet (going (c .before .before .before)) _ _ (got (c .before .before .before)) (quiet (c .enum-told3 .given .1))
 
 enum-told-4 : tie.Need-enum-told-4 Inv-loop μ-loop
 enum-told-4 c = search needs
 
 loop-less-3 : tie.Need-loop-less-3 Inv-loop μ-loop
-loop-less-3 c =
-    let k = c .before .before .before in
-    let a = k .before .before in
-    let g = a .before .loop .inv in
-    let q = sym (a .read-record .ensures) ∙ k .read .given .1 in
-    going-nearer g _ _ q
+loop-less-3 c = going-nearer (going (c .before .before .before)) _ _ (got (c .before .before .before))
 
 loop-again-3 : tie.Need-loop-again-3 Inv-loop μ-loop
-loop-again-3 c =
-    let k = c .before .before .before in
-    let a = k .before .before in
-    let g = a .before .loop .inv in
-    let q = sym (a .read-record .ensures) ∙ k .read .given .1 in
-    going-quiet g _ _ q (ap (λ (e : Event). countOf (e ∷ [])) (c .enum-told4 .given .1))
+loop-again-3 c = going-quiet (going (c .before .before .before)) _ _ (got (c .before .before .before)) (quiet (c .enum-told4 .given .1))
 
 enum-told-5 : tie.Need-enum-told-5 Inv-loop μ-loop
 enum-told-5 c = search needs
 
 loop-less-4 : tie.Need-loop-less-4 Inv-loop μ-loop
-loop-less-4 c =
-    let k = c .before .before .before in
-    let a = k .before .before in
-    let g = a .before .loop .inv in
-    let q = sym (a .read-record .ensures) ∙ k .read .given .1 in
-    going-nearer g _ _ q
+loop-less-4 c = going-nearer (going (c .before .before .before)) _ _ (got (c .before .before .before))
 
 loop-again-4 : tie.Need-loop-again-4 Inv-loop μ-loop
-loop-again-4 c =
-    let k = c .before .before .before in
-    let a = k .before .before in
-    let g = a .before .loop .inv in
-    let q = sym (a .read-record .ensures) ∙ k .read .given .1 in
-    going-quiet g _ _ q (ap (λ (e : Event). countOf (e ∷ [])) (c .enum-told5 .given .1))
+loop-again-4 c = going-quiet (going (c .before .before .before)) _ _ (got (c .before .before .before)) (quiet (c .enum-told5 .given .1))
 
 pub put-lines-spec : {M : Type 1} → statement M
 put-lines-spec =

@@ -1,0 +1,41 @@
+-- The text of a listing lies within the lent bytes, and that of an accepted trace leaves room for an image.
+-- Assumes nothing.
+use Prim.Native.Nat.{ℕ, _≤_}
+use mathlib.Core.Path.{_≡_, refl, ap}
+use mathlib.Core.Bool.{Bool, true, false}
+use mathlib.Core.List.{List}
+use native.Mathlib.Nat.{zero-add}
+use native.Mathlib.Omega.{arith}
+use lib.Dec.{ltb}
+use lib.ListN.{length}
+use borrow.Author.Tests.{ltb-true, ltb-false}
+use Rattle.text.specs.Written.{written, writtenOf}
+use Rattle.text.proofs.Writing.{written-within}
+use Rattle.step.specs.declared.Event.{Event}
+use Rattle.step.specs.declared.Oep060Timing.{Oep060Timing}
+use Rattle.trace.specs.Trace.{Trace, events}
+use Rattle.listing.specs.declared.Listed.{Listed}
+use Rattle.listing.specs.Listing.{Outcome, judgedOf, tableOf, textBy, outcome, outcomeBy}
+use Rattle.listing.proofs.Listing.{judged-large, text-most}
+
+-- only a trace within the limit is accepted
+pub text-fits : (trace : List ℕ) (t : Oep060Timing) {es : List Event} → judgedOf trace ≡ events es → length (tableOf es t) ≤ 65588
+text-fits trace t {es} e = go (ltb 65536 (length trace)) refl
+  where
+    go : (b : Bool) → ltb 65536 (length trace) ≡ b → length (tableOf es t) ≤ 65588
+    go true q =
+        let large = judged-large trace (ltb-true 65536 (length trace) q) in
+        let z : _≡_ {A = ℕ} 0 1 = cc in
+        absurd (omega arith)
+    go false q = text-most trace (ltb-false 65536 (length trace) q) t e
+
+pub listed-text : (said : Trace) (out : List ℕ) (t : Oep060Timing) {r : Listed} {after : List ℕ} → outcome r after ≡ outcomeBy said out t
+    → written (r .len) after ≡ writtenOf out 0 (textBy said t)
+unfolding writtenOf
+listed-text said out t e = rw (ap (λ (o : Outcome). o .answer .len) e, ap (λ (o : Outcome). o .lent) e, zero-add (length (textBy said t)))
+
+-- the text lies within the lent bytes
+pub listed-within : (said : Trace) (out : List ℕ) (t : Oep060Timing) {r : Listed} {after : List ℕ} → outcome r after ≡ outcomeBy said out t
+    → length after ≡ length out → r .len ≤ length out
+listed-within said out t e same =
+    omega (arith, ap (λ (o : Outcome). o .answer .len) e, written-within out 0 (textBy said t) (omega arith) (listed-text said out t e) same)
