@@ -8,7 +8,7 @@ use lib.Dec.{eqb, leb}
 use borrow.Author.Tests.{ne-eqb, le-leb, lt-leb}
 use Rattle.bits.specs.Rows.{otherwise, first}
 use Rattle.class_word.specs.declared.Info060.{Info060}
-use Rattle.classifier.specs.Entry.{packed, unclassified}
+use Rattle.operand.specs.Entry.{packed, unclassified}
 use Rattle.classifier.specs.Classify.{groups, move}
 
 -- a group of one number

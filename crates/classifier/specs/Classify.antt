@@ -1,7 +1,8 @@
 -- Document 01, part 2, "Classifying an opcode". The Rust: classify_060_opcode.
 --
 -- Each group is a list of rows, tried in order: a pattern of the opcode's lower bits, named for its instructions (Instructions of
--- the crate bits), and what they give. A comment in quotation marks is document 01's sentence on a row that surprises.
+-- the crate bits), and what they give (Entry of the crate operand). A comment in quotation marks is document 01's sentence on a row
+-- that surprises.
 --
 --   bitOperation op     ==  what the bit operations of group 0 give
 --   group0 .. group14   ==  the rows of a group                        "The Rust's test order within a group counts"
@@ -19,7 +20,7 @@ use Rattle.bits.specs.Fields.{groupOf, modeOf, regOf, dstModeOf, dstRegOf}
 use Rattle.bits.specs.Rows.{Rows, otherwise, _⇒_⨾_, first}
 use Rattle.class_word.specs.declared.OepClass.the-variants.{PoepSoep, PoepOnly, PoepUntilLast}
 use Rattle.class_word.specs.Word.{BRANCH, DBCC, VARIABLE, «DEFINES_CCR», «USES_CCR_LATE»}
-use Rattle.classifier.specs.Entry.{Entry, entry, entryWord, plain, alu, serial, unclassified, ea, together, noAccess, memoryOnly, addressed, read, written, modified}
+use Rattle.operand.specs.Entry.{Entry, entry, entryWord, plain, alu, serial, unclassified, ea, together, noAccess, memoryOnly, addressed, read, written, modified}
 
 -- BTST, BCHG, BCLR and BSET, and MOVEP: all but BTST write
 abbrev pub bitOperation : ℕ → Entry

@@ -1,96 +1,28 @@
 // Part 2 of document 01: the class word of an opcode.
 ghost use mathlib.Core.Path.{_≡_};
 ghost use mathlib.Core.Bool.{true, false, not, _&&_};
-ghost use Prim.Native.Nat.{_+_, _*_};
-ghost use Rattle.bits.specs.Words.{num};
+ghost use Prim.Native.Nat.{_+_};
 ghost use Rattle.bits.specs.Pattern.{matches};
 ghost use Rattle.bits.specs.Instructions.{dataRegister, size01, movem, nbcdExt};
 ghost use Rattle.bits.specs.Fields.{modeOf, regOf};
-ghost use Rattle.bits.specs.Rows.{otherwise, after};
+ghost use Rattle.bits.specs.Rows.{after};
 ghost use Rattle.class_word.specs.Word.{info, «DEFINES_CCR», «USES_CCR_LATE»};
 ghost use Rattle.class_word.specs.declared.OepClass.the-variants.{PoepSoep, PoepOnly};
-ghost use Rattle.classifier.specs.Entry.{isMemory, isIndexed, ea, accessFlags, alu, entry, entryWord, serial, unclassified, packed};
-ghost use Rattle.classifier.specs.Classify.{bitOperation, group0, move, group4, group5, group6, group8, addSub, group11, group12, group14, classifyOf};
-use bits::dst_mode_of;
-use bits::dst_reg_of;
-use bits::mode_of;
-use bits::reg_of;
+ghost use Rattle.operand.specs.Entry.{ea, entry, entryWord, packed};
+ghost use Rattle.classifier.specs.Classify.{bitOperation, group0, move, group4, group5, group6, group7, group8, addSub, group11, group12, group14, classifyOf};
 use class_word::F_BRANCH;
 use class_word::F_DBCC;
 use class_word::F_DEFINES_CCR;
-use class_word::F_EA_INDEXED;
 use class_word::F_READS_MEM;
-use class_word::F_UNCLASSIFIED;
 use class_word::F_USES_CCR_LATE;
 use class_word::F_VARIABLE;
 use class_word::F_WRITES_MEM;
 use class_word::Info060;
 use class_word::OepClass;
-
-fn is_memory(mode: u16, reg: u16) -> bool
-    ensures { λ r. ⌜ r ≡ isMemory mode reg ⌝ }
-{
-    mode >= 2 && (mode != 7 || reg != 4)
-}
-
-fn is_indexed(mode: u16, reg: u16) -> bool
-    ensures { λ r. ⌜ r ≡ isIndexed mode reg ⌝ }
-{
-    mode == 6 || (mode == 7 && reg == 3)
-}
-
-// The flag where it is on, and none where it is off.
-fn flag_if(on: bool, flag: u16) -> u16
-    ensures { λ r. ⌜ r ≡ num on * flag ⌝ }
-{
-    if on { flag } else { 0 }
-}
-
-// The flag where both hold.
-fn flag_if_both(on: bool, also: bool, flag: u16) -> u16
-    ensures { λ r. ⌜ r ≡ num (on && also) * flag ⌝ }
-{
-    if on { flag_if(also, flag) } else { 0 }
-}
-
-fn ea_flags(mode: u16, reg: u16, read: bool, write: bool) -> u16
-    ensures { λ r. ⌜ r ≡ accessFlags (ea mode reg read write) ⌝ }
-{
-    let is_mem = is_memory(mode, reg);
-    let index = is_indexed(mode, reg);
-    flag_if_both(is_mem, read, F_READS_MEM)
-        | flag_if_both(is_mem, write, F_WRITES_MEM)
-        | flag_if(index, F_EA_INDEXED)
-}
-
-fn alu(mode: u16, reg: u16, read: bool, write: bool) -> Info060
-    ensures { λ r. ⌜ r ≡ info (entryWord (alu (ea mode reg read write))) ⌝ }
-{
-    Info060::new(
-        OepClass::PoepSoep,
-        1,
-        F_DEFINES_CCR | ea_flags(mode, reg, read, write),
-    )
-}
-
-// The flags of the operand in the low six bits.
-fn flags_of(op: u16, read: bool, write: bool) -> u16
-    ensures { λ r. ⌜ r ≡ accessFlags (ea (modeOf op) (regOf op) read write) ⌝ }
-{
-    ea_flags(mode_of(op), reg_of(op), read, write)
-}
-
-fn alu_of(op: u16, read: bool, write: bool) -> Info060
-    ensures { λ r. ⌜ r ≡ info (entryWord (alu (ea (modeOf op) (regOf op) read write))) ⌝ }
-{
-    alu(mode_of(op), reg_of(op), read, write)
-}
-
-fn unclassified() -> Info060
-    ensures { λ r. ⌜ r ≡ info (entryWord unclassified) ⌝ }
-{
-    Info060::new(OepClass::PoepOnly, 1, F_UNCLASSIFIED | F_VARIABLE)
-}
+use operand::alu_of;
+use operand::destination_flags;
+use operand::flags_of;
+use operand::unclassified;
 
 fn bit_operation(op: u16) -> Info060
     ensures { λ r. ⌜ r ≡ info (entryWord (bitOperation op)) ⌝ }
@@ -102,7 +34,7 @@ fn bit_operation(op: u16) -> Info060
     )
 }
 
-fn group0(op: u16) -> Info060
+pub fn group0(op: u16) -> Info060
     ensures { λ r. ⌜ r ≡ packed (group0 op) ⌝ }
 {
     if (op & 0x0100) == 0x0100 {
@@ -122,11 +54,11 @@ fn group0(op: u16) -> Info060
     }
 }
 
-fn move_060(op: u16) -> Info060
+pub fn move_060(op: u16) -> Info060
     ensures { λ r. ⌜ r ≡ packed (move op) ⌝ }
 {
     let source = flags_of(op, true, false);
-    let destination = ea_flags(dst_mode_of(op), dst_reg_of(op), false, true);
+    let destination = destination_flags(op);
     Info060::new(
         OepClass::PoepSoep,
         1,
@@ -140,7 +72,7 @@ fn lea_060(op: u16) -> Info060
     Info060::new(OepClass::PoepSoep, 1, flags_of(op, false, false))
 }
 
-fn group4(op: u16) -> Info060
+pub fn group4(op: u16) -> Info060
     ensures { λ r. ⌜ r ≡ packed (group4 op) ⌝ }
 {
     if (op & 0x0FC0) == 0x00C0 {
@@ -173,7 +105,7 @@ fn group4(op: u16) -> Info060
         return Info060::new(OepClass::PoepOnly, 2, F_DEFINES_CCR | F_VARIABLE);
     }
     if (op & 0x0FF8) == 0x0840 {
-        return alu(0, 0, false, false);
+        return Info060::new(OepClass::PoepSoep, 1, F_DEFINES_CCR);
     }
     if is_nbcd_or_ext(op) {
         return alu_of(op, true, true);
@@ -230,7 +162,7 @@ fn scc(op: u16) -> Info060
     )
 }
 
-fn group5(op: u16) -> Info060
+pub fn group5(op: u16) -> Info060
     ensures { λ r. ⌜ r ≡ packed (group5 op) ⌝ }
 {
     if (op & 0x00F8) == 0x00C8 {
@@ -242,7 +174,7 @@ fn group5(op: u16) -> Info060
     }
 }
 
-fn group6(op: u16) -> Info060
+pub fn group6(op: u16) -> Info060
     ensures { λ r. ⌜ r ≡ packed (group6 op) ⌝ }
 {
     if (op & 0x0F00) == 0 {
@@ -252,7 +184,20 @@ fn group6(op: u16) -> Info060
     }
 }
 
-fn group8(op: u16) -> Info060
+pub fn group7(_op: u16) -> Info060
+    ensures { λ r. ⌜ r ≡ packed (group7 «_op») ⌝ }
+{
+    Info060::new(OepClass::PoepSoep, 1, F_DEFINES_CCR)
+}
+
+// The last two rows of groups 8, 9, B, C and D: bit 8 says whether the operand is modified.
+fn read_or_modified(op: u16) -> Info060
+    ensures { λ r. ⌜ r ≡ packed (after 1 (group11 op)) ⌝ }
+{
+    alu_of(op, true, (op & 0x0100) == 0x0100)
+}
+
+pub fn group8(op: u16) -> Info060
     ensures { λ r. ⌜ r ≡ packed (group8 op) ⌝ }
 {
     if (op & 0x00C0) == 0x00C0 {
@@ -261,10 +206,8 @@ fn group8(op: u16) -> Info060
         Info060::new(OepClass::PoepOnly, 2, F_DEFINES_CCR | F_VARIABLE)
     } else if (op & 0x01F0) == 0x0140 {
         Info060::new(OepClass::PoepOnly, 2, F_DEFINES_CCR | F_VARIABLE)
-    } else if (op & 0x0100) == 0x0100 {
-        alu_of(op, true, true)
     } else {
-        alu_of(op, true, false)
+        read_or_modified(op)
     }
 }
 
@@ -278,33 +221,29 @@ fn addx_subx(op: u16) -> Info060
     )
 }
 
-fn add_sub(op: u16) -> Info060
+pub fn add_sub(op: u16) -> Info060
     ensures { λ r. ⌜ r ≡ packed (addSub op) ⌝ }
 {
     if (op & 0x0130) == 0x0100 {
         addx_subx(op)
     } else if (op & 0x00C0) == 0x00C0 {
         alu_of(op, true, false)
-    } else if (op & 0x0100) == 0x0100 {
-        alu_of(op, true, true)
     } else {
-        alu_of(op, true, false)
+        read_or_modified(op)
     }
 }
 
-fn group11(op: u16) -> Info060
+pub fn group11(op: u16) -> Info060
     ensures { λ r. ⌜ r ≡ packed (group11 op) ⌝ }
 {
     if (op & 0x00C0) == 0x00C0 {
         alu_of(op, true, false)
-    } else if (op & 0x0100) == 0x0100 {
-        alu_of(op, true, true)
     } else {
-        alu_of(op, true, false)
+        read_or_modified(op)
     }
 }
 
-fn group12(op: u16) -> Info060
+pub fn group12(op: u16) -> Info060
     ensures { λ r. ⌜ r ≡ packed (group12 op) ⌝ }
 {
     if (op & 0x00C0) == 0x00C0 {
@@ -317,14 +256,12 @@ fn group12(op: u16) -> Info060
         Info060::new(OepClass::PoepOnly, 1, 0)
     } else if (op & 0x01F8) == 0x0188 {
         Info060::new(OepClass::PoepOnly, 1, 0)
-    } else if (op & 0x0100) == 0x0100 {
-        alu_of(op, true, true)
     } else {
-        alu_of(op, true, false)
+        read_or_modified(op)
     }
 }
 
-fn group14(op: u16) -> Info060
+pub fn group14(op: u16) -> Info060
     ensures { λ r. ⌜ r ≡ packed (group14 op) ⌝ }
 {
     if (op & 0x08C0) == 0x08C0 {
@@ -351,7 +288,7 @@ pub fn classify_060_opcode(op: u16) -> Info060
         0x4 => group4(op),
         0x5 => group5(op),
         0x6 => group6(op),
-        0x7 => Info060::new(OepClass::PoepSoep, 1, F_DEFINES_CCR),
+        0x7 => group7(op),
         0x8 => group8(op),
         0x9 | 0xD => add_sub(op),
         0xB => group11(op),

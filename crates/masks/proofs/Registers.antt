@@ -66,6 +66,24 @@ pub mask-or : (s t : Regs) {a b : ℕ} → a ≡ maskOfRegs s → b ≡ maskOfRe
 unfolding maskOfRegs
 mask-or s t h k = rw (h, k) (digits-or 16 s t)
 
+mask-same : (s t : Regs) → ((i : ℕ) → s i ≡ t i) → maskOfRegs s ≡ maskOfRegs t
+unfolding maskOfRegs
+mask-same s t h = digits-same 16 s t h
+
+or-swap : (a b : Bool) → (a || b) ≡ (b || a)
+or-swap true true = refl
+or-swap true false = refl
+or-swap false true = refl
+or-swap false false = refl
+
+or-none : (a : Bool) → (a || false) ≡ a
+or-none true = refl
+or-none false = refl
+
+-- the other way round, and with nothing
+pub mask-or-swap : (s t : Regs) {a b : ℕ} → a ≡ maskOfRegs s → b ≡ maskOfRegs t → bitOr b a ≡ maskOfRegs (union s t)
+mask-or-swap s t h k = mask-or t s k h ∙ mask-same (union t s) (union s t) (λ i. or-swap (t i) (s i))
+
 -- the code's 1 << n
 pub mask-only : (m : ℕ) {n : ℕ} → n ≡ m → m < 16 → 1 * 2 ^ n % 65536 ≡ maskOfRegs (register m)
 unfolding maskOfRegs
@@ -81,6 +99,9 @@ mask-bit s i h = digits-bit 16 i s h
 pub mask-none : 0 ≡ maskOfRegs none
 unfolding maskOfRegs
 mask-none = refl
+
+pub mask-or-none : (s : Regs) {a : ℕ} → a ≡ maskOfRegs s → bitOr a 0 ≡ maskOfRegs s
+mask-or-none s h = mask-or s none h mask-none ∙ mask-same (union s none) s (λ i. or-none (s i))
 
 pub mask-all : 65535 ≡ maskOfRegs all
 unfolding maskOfRegs

@@ -1,8 +1,10 @@
 // Part 3 of document 01: the registers that an instruction uses and defines.
 ghost use mathlib.Core.Path.{_≡_};
-ghost use Prim.Native.Nat.{_<_};
+ghost use mathlib.Core.Bool.{cond};
+ghost use Prim.Native.Nat.{_+_, _<_};
+ghost use lib.Dec.{ltb};
 ghost use Rattle.bits.specs.Fields.{modeOf, regOf};
-ghost use Rattle.masks.specs.Registers.{maskOfRegs};
+ghost use Rattle.masks.specs.Registers.{register, maskOfRegs};
 ghost use Rattle.masks.specs.Masks.{undecoded, operandSets, registerOperand, moveSets, moveqSets, dyadicSets, quickSets, shiftSets, group4Sets, maskPair, masksOf};
 
 // The Rust's pair (use, def): D0 to D7 in bits 0 to 7, A0 to A7 in bits 8 to 15.
@@ -11,7 +13,7 @@ pub struct RegMasks060 {
     pub defs: u16,
 }
 
-fn full() -> RegMasks060
+pub fn full() -> RegMasks060
     ensures { λ r. ⌜ r ≡ maskPair undecoded ⌝ }
 {
     RegMasks060 {
@@ -20,32 +22,29 @@ fn full() -> RegMasks060
     }
 }
 
+// A selection: a jump for each mode costs more.
+fn select(t: bool, yes: u16, no: u16) -> u16
+    ensures { λ r. ⌜ r ≡ cond t yes no ⌝ }
+{
+    if t { yes } else { no }
+}
+
+// The register of a mode that has one: Dn in mode 0, else An.
+fn register_of(mode: u16, reg: u16) -> u16
+    requires { ⌜ reg < 8 ⌝ }
+    ensures { λ r. ⌜ r ≡ maskOfRegs (register (cond (ltb mode 1) reg (8 + reg))) ⌝ }
+{
+    if mode < 1 { 1 << reg } else { 1 << (8 + reg) }
+}
+
 fn ea_masks(mode: u16, reg: u16) -> RegMasks060
     requires { ⌜ reg < 8 ⌝ }
     ensures { λ r. ⌜ r ≡ maskPair (operandSets mode reg) ⌝ }
 {
-    match mode {
-        0 => RegMasks060 {
-            uses: 1 << reg,
-            defs: 0,
-        },
-        1 => RegMasks060 {
-            uses: 1 << (8 + reg),
-            defs: 0,
-        },
-        2 | 5 => RegMasks060 {
-            uses: 1 << (8 + reg),
-            defs: 0,
-        },
-        3 | 4 => RegMasks060 {
-            uses: 1 << (8 + reg),
-            defs: 1 << (8 + reg),
-        },
-        6 => RegMasks060 {
-            uses: 0xFFFF,
-            defs: 0,
-        },
-        _ => RegMasks060 { uses: 0, defs: 0 },
+    let own = register_of(mode, reg);
+    RegMasks060 {
+        uses: select(mode < 6, own, select(mode < 7, 0xFFFF, 0)),
+        defs: select(mode < 3, 0, select(mode < 5, own, 0)),
     }
 }
 
@@ -54,11 +53,7 @@ fn operand_def(mode: u16, reg: u16) -> u16
     requires { ⌜ reg < 8 ⌝ }
     ensures { λ r. ⌜ r ≡ maskOfRegs (registerOperand mode reg) ⌝ }
 {
-    match mode {
-        0 => 1 << reg,
-        1 => 1 << (8 + reg),
-        _ => 0,
-    }
+    select(mode < 2, register_of(mode, reg), 0)
 }
 
 // The operand that the low six bits name.
@@ -68,7 +63,7 @@ fn operand_masks(op: u16) -> RegMasks060
     ea_masks(bits::mode_of(op), bits::reg_of(op))
 }
 
-fn move_masks(op: u16) -> RegMasks060
+pub fn move_masks(op: u16) -> RegMasks060
     ensures { λ r. ⌜ r ≡ maskPair (moveSets op) ⌝ }
 {
     let src = operand_masks(op);
@@ -82,7 +77,7 @@ fn move_masks(op: u16) -> RegMasks060
     }
 }
 
-fn moveq_masks(op: u16) -> RegMasks060
+pub fn moveq_masks(op: u16) -> RegMasks060
     ensures { λ r. ⌜ r ≡ maskPair (moveqSets op) ⌝ }
 {
     let dn = bits::dst_reg_of(op);
@@ -92,29 +87,22 @@ fn moveq_masks(op: u16) -> RegMasks060
     }
 }
 
-fn dyadic_masks(op: u16) -> RegMasks060
+pub fn dyadic_masks(op: u16) -> RegMasks060
     ensures { λ r. ⌜ r ≡ maskPair (dyadicSets op) ⌝ }
 {
     let opmode = bits::dst_mode_of(op);
     let dn = bits::dst_reg_of(op);
     let ea = operand_masks(op);
-    match opmode {
-        0..=2 => RegMasks060 {
-            uses: ea.uses | (1 << dn),
-            defs: ea.defs | (1 << dn),
-        },
-        3 | 7 => RegMasks060 {
-            uses: ea.uses | (1 << (8 + dn)),
-            defs: ea.defs | (1 << (8 + dn)),
-        },
-        _ => RegMasks060 {
-            uses: (1 << dn) | ea.uses,
-            defs: ea.defs,
-        },
+    let own = select((opmode & 3) == 3, 1 << (8 + dn), 1 << dn); // An for 3 and 7
+    let kept = select(opmode < 7, 0, own);
+    let defined = select(opmode < 4, own, kept);
+    RegMasks060 {
+        uses: ea.uses | own,
+        defs: ea.defs | defined,
     }
 }
 
-fn quick_masks(op: u16) -> RegMasks060
+pub fn quick_masks(op: u16) -> RegMasks060
     ensures { λ r. ⌜ r ≡ maskPair (quickSets op) ⌝ }
 {
     let ea = operand_masks(op);
@@ -125,7 +113,7 @@ fn quick_masks(op: u16) -> RegMasks060
     }
 }
 
-fn shift_masks(op: u16) -> RegMasks060
+pub fn shift_masks(op: u16) -> RegMasks060
     ensures { λ r. ⌜ r ≡ maskPair (shiftSets op) ⌝ }
 {
     if (op & 0x00C0) != 0x00C0 {
@@ -144,7 +132,7 @@ fn shift_masks(op: u16) -> RegMasks060
     }
 }
 
-fn group4_masks(op: u16) -> RegMasks060
+pub fn group4_masks(op: u16) -> RegMasks060
     ensures { λ r. ⌜ r ≡ maskPair (group4Sets op) ⌝ }
 {
     if (op & 0x01C0) == 0x01C0 {

@@ -2,7 +2,7 @@
 -- Assumes nothing.
 use borrow.Author.Needs.{needs}
 use Rattle.bits.proofs.Patterns.{hit, miss}
-use Rattle.classifier.specs.Classify.{addSub}
+use Rattle.classifier.specs.Classify.{addSub, group11}
 use Rattle.classifier.proofs.add_sub.Statement.{statement}
 use Rattle.classifier.proofs.add_sub.Tie as tie
 
@@ -12,12 +12,6 @@ addx-subx-requires c κs = search needs
 alu-of-requires : tie.Need-alu-of-requires
 alu-of-requires c κs = search needs
 
-alu-of-requires-2 : tie.Need-alu-of-requires-2
-alu-of-requires-2 c κs = search needs
-
-alu-of-requires-3 : tie.Need-alu-of-requires-3
-alu-of-requires-3 c κs = search needs
-
 returns : tie.Need-returns
 unfolding addSub
 returns c = search (needs, hit)
@@ -26,13 +20,12 @@ returns-2 : tie.Need-returns-2
 unfolding addSub
 returns-2 c = search (needs, hit, miss)
 
-returns-3 : tie.Need-returns-3
-unfolding addSub
-returns-3 c = search (needs, hit, miss)
+read-or-modified-requires : tie.Need-read-or-modified-requires
+read-or-modified-requires c κs = search needs
 
-returns-4 : tie.Need-returns-4
-unfolding addSub
-returns-4 c = search (needs, miss)
+returns-3 : tie.Need-returns-3
+unfolding addSub group11
+returns-3 c = search (needs, miss)
 
 pub add-sub-spec : {M : Type 1} → statement M
 add-sub-spec =
@@ -40,9 +33,7 @@ add-sub-spec =
     (tie.spec
     addx-subx-requires
     alu-of-requires
-    alu-of-requires-2
-    alu-of-requires-3
-    returns
+    read-or-modified-requires returns
     returns-2
     returns-3
-    returns-4)
+    )

@@ -6,8 +6,8 @@ use native.Mathlib.Omega.{arith}
 use borrow.Author.Needs.{needs}
 use Rattle.bits.specs.Fields.{modeOf, regOf}
 use Rattle.class_word.specs.declared.OepClass.the-variants.{PoepOnly}
-use Rattle.classifier.specs.Entry.{ea}
-use Rattle.classifier.proofs.Flags.{entry-packed}
+use Rattle.operand.specs.Entry.{ea}
+use Rattle.operand.proofs.Flags.{entry-packed}
 use Rattle.classifier.proofs.addx_subx.Statement.{statement}
 use Rattle.classifier.proofs.addx_subx.Tie as tie
 

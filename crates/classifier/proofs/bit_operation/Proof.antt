@@ -9,8 +9,8 @@ use Rattle.bits.specs.Instructions.{btst}
 use Rattle.bits.specs.Fields.{modeOf, regOf}
 use Rattle.bits.proofs.Patterns.{masked}
 use Rattle.class_word.specs.declared.OepClass.the-variants.{PoepOnly}
-use Rattle.classifier.specs.Entry.{ea, accessFlags}
-use Rattle.classifier.proofs.Flags.{entry-packed}
+use Rattle.operand.specs.Entry.{ea, accessFlags}
+use Rattle.operand.proofs.Flags.{entry-packed}
 use Rattle.classifier.proofs.bit_operation.Statement.{statement}
 use Rattle.classifier.proofs.bit_operation.Tie as tie
 

@@ -2,7 +2,7 @@
 -- Assumes nothing.
 use mathlib.Core.Logic.{⊎-elim, inl, inr}
 use borrow.Author.Needs.{needs}
-use Rattle.classifier.specs.Classify.{classifyOf, group7}
+use Rattle.classifier.specs.Classify.{classifyOf}
 use Rattle.classifier.proofs.Groups.{group-is, group-move, group-none}
 use Rattle.classifier.proofs.classify_060_opcode.Statement.{statement}
 use Rattle.classifier.proofs.classify_060_opcode.Tie as tie
@@ -19,8 +19,8 @@ group5-requires c κs = search needs
 group6-requires : tie.Need-group6-requires
 group6-requires c κs = search needs
 
-new-requires : tie.Need-new-requires
-new-requires c κs = search needs
+group7-requires : tie.Need-group7-requires
+group7-requires c κs = search needs
 
 group8-requires : tie.Need-group8-requires
 group8-requires c κs = search needs
@@ -60,8 +60,8 @@ unfolding classifyOf
 returns-4 c = group-is _ (c .before .match .keys4) (c .group6 .ensures)
 
 returns-5 : tie.Need-returns-5
-unfolding classifyOf group7
-returns-5 c = group-is _ (c .before .match .keys5) (c .new .ensures)
+unfolding classifyOf
+returns-5 c = group-is _ (c .before .match .keys5) (c .group7 .ensures)
 
 returns-6 : tie.Need-returns-6
 unfolding classifyOf
@@ -102,7 +102,7 @@ classify-060-opcode-spec =
     group4-requires
     group5-requires
     group6-requires
-    new-requires
+    group7-requires
     group8-requires
     add-sub-requires
     group11-requires

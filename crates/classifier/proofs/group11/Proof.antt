@@ -9,25 +9,18 @@ use Rattle.classifier.proofs.group11.Tie as tie
 alu-of-requires : tie.Need-alu-of-requires
 alu-of-requires c κs = search needs
 
-alu-of-requires-2 : tie.Need-alu-of-requires-2
-alu-of-requires-2 c κs = search needs
-
-alu-of-requires-3 : tie.Need-alu-of-requires-3
-alu-of-requires-3 c κs = search needs
-
 returns : tie.Need-returns
 unfolding group11
 returns c = search (needs, hit)
 
+read-or-modified-requires : tie.Need-read-or-modified-requires
+read-or-modified-requires c κs = search needs
+
 returns-2 : tie.Need-returns-2
 unfolding group11
-returns-2 c = search (needs, hit, miss)
-
-returns-3 : tie.Need-returns-3
-unfolding group11
-returns-3 c = search (needs, miss)
+returns-2 c = search (needs, miss)
 
 pub group11-spec : {M : Type 1} → statement M
 group11-spec =
     tie.close
-    (tie.spec alu-of-requires alu-of-requires-2 alu-of-requires-3 returns returns-2 returns-3)
+    (tie.spec alu-of-requires read-or-modified-requires returns returns-2)

@@ -2,7 +2,7 @@
 -- Assumes nothing.
 use borrow.Author.Needs.{needs}
 use Rattle.bits.proofs.Patterns.{hit, miss}
-use Rattle.classifier.specs.Classify.{group12}
+use Rattle.classifier.specs.Classify.{group12, group11}
 use Rattle.classifier.proofs.group12.Statement.{statement}
 use Rattle.classifier.proofs.group12.Tie as tie
 
@@ -20,12 +20,6 @@ new-requires-4 c κs = search needs
 
 new-requires-5 : tie.Need-new-requires-5
 new-requires-5 c κs = search needs
-
-alu-of-requires : tie.Need-alu-of-requires
-alu-of-requires c κs = search needs
-
-alu-of-requires-2 : tie.Need-alu-of-requires-2
-alu-of-requires-2 c κs = search needs
 
 returns : tie.Need-returns
 unfolding group12
@@ -47,13 +41,12 @@ returns-5 : tie.Need-returns-5
 unfolding group12
 returns-5 c = search (needs, hit, miss)
 
-returns-6 : tie.Need-returns-6
-unfolding group12
-returns-6 c = search (needs, hit, miss)
+read-or-modified-requires : tie.Need-read-or-modified-requires
+read-or-modified-requires c κs = search needs
 
-returns-7 : tie.Need-returns-7
-unfolding group12
-returns-7 c = search (needs, miss)
+returns-6 : tie.Need-returns-6
+unfolding group12 group11
+returns-6 c = search (needs, miss)
 
 pub group12-spec : {M : Type 1} → statement M
 group12-spec =
@@ -64,12 +57,10 @@ group12-spec =
     new-requires-3
     new-requires-4
     new-requires-5
-    alu-of-requires
-    alu-of-requires-2
-    returns
+    read-or-modified-requires returns
     returns-2
     returns-3
     returns-4
     returns-5
     returns-6
-    returns-7)
+    )

@@ -4,7 +4,7 @@ use mathlib.Core.Path.{sym, _∙_}
 use borrow.Author.Needs.{needs}
 use Rattle.bits.proofs.Patterns.{hit, miss}
 use Rattle.classifier.specs.Classify.{group4}
-use Rattle.classifier.specs.Entry.{ea}
+use Rattle.operand.specs.Entry.{ea}
 use Rattle.classifier.proofs.group4.Statement.{statement}
 use Rattle.classifier.proofs.group4.Tie as tie
 
@@ -60,8 +60,8 @@ returns-7 : tie.Need-returns-7
 unfolding group4 ea
 returns-7 c = search (needs, hit, miss, sym (c .before .before .before .before .is-movem .ensures) ∙ c .before .before .before .if5 .left)
 
-alu-requires : tie.Need-alu-requires
-alu-requires c κs = search needs
+new-requires-8 : tie.Need-new-requires-8
+new-requires-8 c κs = search needs
 
 returns-8 : tie.Need-returns-8
 unfolding group4 ea
@@ -103,7 +103,7 @@ group4-spec =
     returns-6
     new-requires-7
     returns-7
-    alu-requires
+    new-requires-8
     returns-8
     is-nbcd-or-ext-requires
     alu-of-requires

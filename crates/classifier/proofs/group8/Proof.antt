@@ -2,7 +2,7 @@
 -- Assumes nothing.
 use borrow.Author.Needs.{needs}
 use Rattle.bits.proofs.Patterns.{hit, miss}
-use Rattle.classifier.specs.Classify.{group8}
+use Rattle.classifier.specs.Classify.{group8, group11}
 use Rattle.classifier.proofs.group8.Statement.{statement}
 use Rattle.classifier.proofs.group8.Tie as tie
 
@@ -14,12 +14,6 @@ new-requires-2 c κs = search needs
 
 new-requires-3 : tie.Need-new-requires-3
 new-requires-3 c κs = search needs
-
-alu-of-requires : tie.Need-alu-of-requires
-alu-of-requires c κs = search needs
-
-alu-of-requires-2 : tie.Need-alu-of-requires-2
-alu-of-requires-2 c κs = search needs
 
 returns : tie.Need-returns
 unfolding group8
@@ -33,13 +27,12 @@ returns-3 : tie.Need-returns-3
 unfolding group8
 returns-3 c = search (needs, hit, miss)
 
-returns-4 : tie.Need-returns-4
-unfolding group8
-returns-4 c = search (needs, hit, miss)
+read-or-modified-requires : tie.Need-read-or-modified-requires
+read-or-modified-requires c κs = search needs
 
-returns-5 : tie.Need-returns-5
-unfolding group8
-returns-5 c = search (needs, miss)
+returns-4 : tie.Need-returns-4
+unfolding group8 group11
+returns-4 c = search (needs, miss)
 
 pub group8-spec : {M : Type 1} → statement M
 group8-spec =
@@ -48,10 +41,8 @@ group8-spec =
     new-requires
     new-requires-2
     new-requires-3
-    alu-of-requires
-    alu-of-requires-2
-    returns
+    read-or-modified-requires returns
     returns-2
     returns-3
     returns-4
-    returns-5)
+    )

@@ -1,29 +1,22 @@
 -- `move_060`: the flags of both operands, or-ed, are those of the two together.
 -- Assumes nothing.
-use mathlib.Core.Path.{refl, ap₂, _∙_}
+use mathlib.Core.Path.{refl, _∙_}
 use mathlib.Core.Bool.{true, false}
-use Prim.Native.Nat.{ℕ}
 use native.Mathlib.Omega.{arith}
 use borrow.Author.Needs.{needs}
 use Rattle.bits.specs.Fields.{dstModeOf, dstRegOf}
 use Rattle.class_word.specs.declared.OepClass.the-variants.{PoepSoep}
-use Rattle.classifier.specs.Entry.{ea, read, together, accessFlags}
+use Rattle.operand.specs.Entry.{ea, read, together}
 use Rattle.classifier.specs.Classify.{move}
-use Rattle.classifier.proofs.Flags.{flags-together, entry-packed}
+use Rattle.operand.proofs.Flags.{flags-together, entry-packed}
 use Rattle.classifier.proofs.move_060.Statement.{statement}
 use Rattle.classifier.proofs.move_060.Tie as tie
 
 flags-of-requires : tie.Need-flags-of-requires
 flags-of-requires c κs = search needs
 
-dst-mode-of-requires : tie.Need-dst-mode-of-requires
-dst-mode-of-requires c κs = search needs
-
-dst-reg-of-requires : tie.Need-dst-reg-of-requires
-dst-reg-of-requires c κs = search needs
-
-ea-flags-requires : tie.Need-ea-flags-requires
-ea-flags-requires c κs = search needs
+destination-flags-requires : tie.Need-destination-flags-requires
+destination-flags-requires c κs = search needs
 
 new-requires : tie.Need-new-requires
 new-requires c κs = search needs
@@ -31,21 +24,12 @@ new-requires c κs = search needs
 returns : tie.Need-returns
 unfolding move
 returns c =
-    let op = c .before .before .before .before .before .args .op in
+    let op = c .before .before .before .args .op in
     let to = ea (dstModeOf op) (dstRegOf op) false true in
     c .new .ensures
     ∙ entry-packed PoepSoep 1 1024 (omega arith) refl refl (together (read op) to)
-    (flags-together (read op) to (c .before .before .before .before .flags-of .ensures)
-    (c .before .ea-flags .ensures
-    ∙ ap₂ (λ (m r : ℕ). accessFlags (ea m r false true)) (c .before .before .before .dst-mode-of .ensures) (c .before .before .dst-reg-of .ensures)))
+    (flags-together (read op) to (c .before .before .flags-of .ensures) (c .before .destination-flags .ensures))
 
 pub move-060-spec : {M : Type 1} → statement M
 move-060-spec =
-    tie.close
-    (tie.spec
-    flags-of-requires
-    dst-mode-of-requires
-    dst-reg-of-requires
-    ea-flags-requires
-    new-requires
-    returns)
+    tie.close (tie.spec flags-of-requires destination-flags-requires new-requires returns)

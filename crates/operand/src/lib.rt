@@ -1,0 +1,94 @@
+// Part 2 of document 01: what an operand gives, and the entries that are made of it.
+ghost use mathlib.Core.Path.{_≡_};
+ghost use mathlib.Core.Bool.{true, false, _&&_};
+ghost use Prim.Native.Nat.{_*_, _<_};
+ghost use Rattle.bits.specs.Words.{num};
+ghost use Rattle.bits.specs.Fields.{modeOf, regOf, dstModeOf, dstRegOf};
+ghost use Rattle.class_word.specs.Word.{info};
+ghost use Rattle.operand.specs.Entry.{isMemory, isIndexed, ea, accessFlags, alu, entryWord, unclassified};
+use bits::dst_mode_of;
+use bits::dst_reg_of;
+use bits::mode_of;
+use bits::reg_of;
+use class_word::F_DEFINES_CCR;
+use class_word::F_EA_INDEXED;
+use class_word::F_READS_MEM;
+use class_word::F_UNCLASSIFIED;
+use class_word::F_VARIABLE;
+use class_word::F_WRITES_MEM;
+use class_word::Info060;
+use class_word::OepClass;
+
+// Two tables of one bit for each mode and reg: a shift costs less than a chain of tests.
+const MEMORY: u64 = 0xEFFF_FFFF_FFFF_0000;
+
+const INDEXED: u64 = 0x08FF_0000_0000_0000;
+
+fn is_memory(mode: u16, reg: u16) -> bool
+    requires { ⌜ (mode < 8) × (reg < 8) ⌝ }
+    ensures { λ r. ⌜ r ≡ isMemory mode reg ⌝ }
+{
+    (MEMORY >> (mode * 8 + reg)) & 1 == 1
+}
+
+fn is_indexed(mode: u16, reg: u16) -> bool
+    requires { ⌜ (mode < 8) × (reg < 8) ⌝ }
+    ensures { λ r. ⌜ r ≡ isIndexed mode reg ⌝ }
+{
+    (INDEXED >> (mode * 8 + reg)) & 1 == 1
+}
+
+// The flag where it is on, and none where it is off.
+fn flag_if(on: bool, flag: u16) -> u16
+    ensures { λ r. ⌜ r ≡ num on * flag ⌝ }
+{
+    if on { flag } else { 0 }
+}
+
+// The flag where both hold.
+fn flag_if_both(on: bool, also: bool, flag: u16) -> u16
+    ensures { λ r. ⌜ r ≡ num (on && also) * flag ⌝ }
+{
+    if on { flag_if(also, flag) } else { 0 }
+}
+
+fn ea_flags(mode: u16, reg: u16, read: bool, write: bool) -> u16
+    requires { ⌜ (mode < 8) × (reg < 8) ⌝ }
+    ensures { λ r. ⌜ r ≡ accessFlags (ea mode reg read write) ⌝ }
+{
+    let is_mem = is_memory(mode, reg);
+    let index = is_indexed(mode, reg);
+    flag_if_both(is_mem, read, F_READS_MEM)
+        | flag_if_both(is_mem, write, F_WRITES_MEM)
+        | flag_if(index, F_EA_INDEXED)
+}
+
+// The flags of the operand in the low six bits.
+pub fn flags_of(op: u16, read: bool, write: bool) -> u16
+    ensures { λ r. ⌜ r ≡ accessFlags (ea (modeOf op) (regOf op) read write) ⌝ }
+{
+    ea_flags(mode_of(op), reg_of(op), read, write)
+}
+
+// The flags of MOVE's destination.
+pub fn destination_flags(op: u16) -> u16
+    ensures { λ r. ⌜ r ≡ accessFlags (ea (dstModeOf op) (dstRegOf op) false true) ⌝ }
+{
+    ea_flags(dst_mode_of(op), dst_reg_of(op), false, true)
+}
+
+pub fn alu_of(op: u16, read: bool, write: bool) -> Info060
+    ensures { λ r. ⌜ r ≡ info (entryWord (alu (ea (modeOf op) (regOf op) read write))) ⌝ }
+{
+    Info060::new(
+        OepClass::PoepSoep,
+        1,
+        F_DEFINES_CCR | flags_of(op, read, write),
+    )
+}
+
+pub fn unclassified() -> Info060
+    ensures { λ r. ⌜ r ≡ info (entryWord unclassified) ⌝ }
+{
+    Info060::new(OepClass::PoepOnly, 1, F_UNCLASSIFIED | F_VARIABLE)
+}
