@@ -10,7 +10,7 @@
 use Prim.Native.Nat.{ℕ, _+_}
 use mathlib.Core.List.{List}
 use lib.ListN.{set}
-use Rattle.pairing.specs.Retiring.{seen}
+use Rattle.dispatch.specs.Windows.{seen}
 use Rattle.step.specs.declared.Retirement.{Retirement}
 use Rattle.step.specs.declared.Oep060Timing.{Oep060Timing}
 use Rattle.step.specs.Step.{timingAt, steppedOf}

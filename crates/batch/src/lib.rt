@@ -5,10 +5,10 @@ ghost use lib.ListN.{length};
 ghost use Rattle.batch.specs.Batch.{outcome, batchOf};
 ghost use Rattle.batch.specs.Turns.{judgedOf, beginOf, reached, turnedOf, finishOf};
 use branch_cache::BranchCache060;
+use dispatch::Window;
 use outcome::Ran;
 use outcome::Refusal;
 use outcome::Verdict;
-use pairing::Window;
 use step::Oep060Timing;
 use step::Retirement;
 
@@ -72,10 +72,11 @@ fn turn<'a>(
         × (x .total ≤ (i + 1) * 4294967295) ⌝ }
 {
     let w = carried.window;
-    let retired = step::cycles_in_place(tags, state, w, r);
-    let cost = retired.cost.0;
+    let mut numbers = [0; 5];
+    in_place::put_window(&mut numbers, w);
+    let cost = in_place::retire_in_place(tags, state, &mut numbers, r);
     costs[i] = cost;
-    let window = retired.window;
+    let window = in_place::window_at(numbers);
     Carried {
         window,
         total: carried.total + (cost as u64),

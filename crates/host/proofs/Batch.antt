@@ -8,7 +8,7 @@ use native.Mathlib.Numerals.{add-one}
 use lib.ListN.{length, getD, set, take, drop, take-append-drop, length-drop}
 use lib.Seq.{take-suc-set, append-snoc, drop-set-lt}
 use borrow.Author.Tests.{lt-ltb, le-ltb}
-use Rattle.pairing.specs.Retiring.{seen}
+use Rattle.dispatch.specs.Windows.{seen}
 use Rattle.step.specs.declared.Retirement.{Retirement}
 use Rattle.step.specs.declared.Oep060Timing.{Oep060Timing}
 use Rattle.step.specs.declared.Stepped.{Stepped}
@@ -22,7 +22,7 @@ use Rattle.batch.specs.Batch.{judgeOf, outcomeBy, acceptedOf, batchOf}
 use Rattle.batch.specs.Turns.{Reached}
 use Rattle.batch.proofs.Run.{endOf, paidOf, end-none, paid-none, end-first, paid-first}
 use Rattle.host.specs.declared.HostRan.{HostRan}
-use Rattle.host.specs.Lent.{Lent, windowAt, numbersOf, lent, stateAt, lentOf}
+use Rattle.in_place.specs.Lent.{Lent, windowAt, numbersOf, lent, stateAt, lentOf}
 use Rattle.host.specs.Runs.{HostOutcome, hostRanOf, hostOutcome, recordOf, retirementsOf, batchOutcomeOf, runBatchAtOf}
 use Rattle.host.proofs.Words.{words-count, words-none, words-next}
 

@@ -15,7 +15,7 @@ use mathlib.Core.List.{List}
 use Rattle.image.specs.declared.ImageRead.{ImageRead}
 use Rattle.image.specs.Entries.{Outcome, imageWriteOf, imageReadOf}
 use Rattle.host.specs.declared.HostRan.{HostRan}
-use Rattle.host.specs.Lent.{Lent, stateAt, lentOf}
+use Rattle.in_place.specs.Lent.{Lent, stateAt, lentOf}
 use Rattle.host.specs.Runs.{hostRanOf}
 
 pub record HostImage : Type 0 where

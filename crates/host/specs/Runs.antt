@@ -23,8 +23,8 @@ use Rattle.outcome.specs.Refusals.{numberOf, placeOf}
 use Rattle.trace.specs.Run as traces
 use Rattle.batch.specs.Batch as batches
 use Rattle.host.specs.declared.HostRan.{HostRan}
-use Rattle.host.specs.Lent.{Lent, stateAt, lentOf}
-use Rattle.host.specs.Events.{retirementOf}
+use Rattle.in_place.specs.Lent.{Lent, stateAt, lentOf}
+use Rattle.in_place.specs.Retire.{retirementOf}
 
 abbrev pub refusalOf : Verdict → ℕ
 refusalOf Accepted = 0

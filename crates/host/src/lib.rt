@@ -9,17 +9,15 @@ ghost use Rattle.step.specs.Step.{freshOf};
 ghost use Rattle.step.specs.declared.Event.the-variants.{Broken, ClearedAll, ClearedUser};
 ghost use Rattle.outcome.specs.declared.Verdict.the-variants.{Refused};
 ghost use Rattle.batch.specs.Batch.{acceptedOf};
-ghost use Rattle.pairing.specs.Retiring.{seen};
-ghost use Rattle.host.specs.Lent.{windowAt, numbersOf, lent, stateAt, lentOf};
-ghost use Rattle.host.specs.Events.{retirementOf, hostStepped, retireAtOf, eventAtOf, hostMasksOf};
+ghost use Rattle.dispatch.specs.Windows.{seen};
+ghost use Rattle.in_place.specs.Lent.{windowAt, numbersOf, lent, stateAt, lentOf};
+ghost use Rattle.in_place.specs.Retire.{retirementOf, paid, retireAtOf};
+ghost use Rattle.host.specs.Events.{eventAtOf, hostMasksOf};
 ghost use Rattle.host.specs.Runs.{hostRanOf, hostOutcome, runTraceAtOf, recordOf, retirementsOf, batchOutcomeOf, runBatchAtOf};
 ghost use Rattle.host.specs.Images.{hostImage, imageWriteAtOf, hostState, imageReadAtOf};
 use branch_cache::BranchCache060;
 use outcome::Refusal;
 use outcome::Verdict;
-use pairing::Controls;
-use pairing::RawCount;
-use pairing::Window;
 use step::Oep060Timing;
 use step::Retirement;
 
@@ -39,52 +37,13 @@ pub struct HostRan {
     pub total: u64,
 }
 
-// The number of a yes or no.
-fn number(b: bool) -> u16
-    ensures { λ r. ⌜ r ≡ num b ⌝ }
-{
-    if b { 1 } else { 0 }
-}
-
-fn window_at(ns: [u16; 5]) -> Window
-    ensures { λ r. ⌜ r ≡ windowAt ns ⌝ }
-{
-    Window {
-        opened: ns[0] != 0,
-        defs: ns[1],
-        ccr: ns[2] != 0,
-        mem: ns[3] != 0,
-        warm: ns[4] != 0,
-    }
-}
-
-fn put_window(window: &mut [u16; 5], w: Window)
-    ensures { λ _. ⌜ now (window .exit) ≡ numbersOf w ⌝ }
-{
-    *window = [
-        number(w.opened),
-        w.defs,
-        number(w.ccr),
-        number(w.mem),
-        number(w.warm),
-    ];
-}
-
 // The window as every entry reads it, stored: a shut one becomes zeros.
 fn see_window(window: &mut [u16; 5])
     ensures { λ _. ⌜ now (window .exit) ≡ numbersOf (seen (windowAt (now (window .entry)))) ⌝ }
 {
-    let came = window_at(*window);
+    let came = in_place::window_at(*window);
     let read = came.seen();
-    put_window(window, read);
-}
-
-fn timing_at(tags: [u32; 256], state: [u8; 256], window: [u16; 5]) -> Oep060Timing
-    ensures { λ r. ⌜ r ≡ stateAt (lent tags state window) ⌝ }
-{
-    let cache = BranchCache060 { tags, state };
-    let window = window_at(window);
-    Oep060Timing { cache, window }
+    in_place::put_window(window, read);
 }
 
 fn put_timing(
@@ -99,30 +58,7 @@ fn put_timing(
     let all_state = timing.cache.state;
     *tags = all_tags;
     *state = all_state;
-    put_window(window, timing.window);
-}
-
-fn flag(flags: u16, n: u16) -> bool
-    requires { ⌜ n < 16 ⌝ }
-    ensures { λ r. ⌜ r ≡ bit n flags ⌝ }
-{
-    (flags >> n) % 2 == 1
-}
-
-fn retirement(op: u16, flags: u16, ppc: u32, pc: u32, raw: i32) -> Retirement
-    ensures { λ r. ⌜ r ≡ retirementOf op flags ppc pc raw ⌝ }
-{
-    let controls = Controls {
-        flowed: flag(flags, 0),
-        cached: flag(flags, 1),
-        ess: flag(flags, 2),
-        ebc: flag(flags, 3),
-        supervisor: flag(flags, 4),
-        ppc,
-        pc,
-        raw: RawCount(raw),
-    };
-    Retirement { op, controls }
+    in_place::put_window(window, timing.window);
 }
 
 // A verdict, a count and a total as numbers.
@@ -176,15 +112,10 @@ pub extern "C" fn timing_060_retire_at(
     pc: u32,
     raw: i32,
 ) -> u32
-    ensures { λ r. ⌜ hostStepped r (lent (now (tags .exit)) (now (state .exit)) (now (window .exit)))
+    ensures { λ r. ⌜ paid r (lent (now (tags .exit)) (now (state .exit)) (now (window .exit)))
         ≡ retireAtOf (lent (now (tags .entry)) (now (state .entry)) (now (window .entry))) (retirementOf op flags ppc pc raw) ⌝ }
 {
-    let w = window_at(*window);
-    let r = retirement(op, flags, ppc, pc, raw);
-    let retired = step::cycles_in_place(tags, state, w, r);
-    let next = retired.window;
-    put_window(window, next);
-    retired.cost.0
+    in_place::retire_at(tags, state, window, op, flags, ppc, pc, raw)
 }
 
 // The break: tags and slots stay, and are not lent.
@@ -192,9 +123,9 @@ pub extern "C" fn timing_060_retire_at(
 pub extern "C" fn timing_060_break_at(window: &mut [u16; 5])
     ensures { λ _. ⌜ ((tags state : List ℕ) → lent tags state (now (window .exit)) ≡ eventAtOf (lent tags state (now (window .entry))) Broken) ⌝ }
 {
-    let came = window_at(*window);
+    let came = in_place::window_at(*window);
     let w = lent::break_in_place(came);
-    put_window(window, w);
+    in_place::put_window(window, w);
 }
 
 // CACR.CABC: the tags stay, and are not lent.
@@ -251,7 +182,7 @@ pub extern "C" fn timing_060_run_trace_at(
     ensures { λ r. ⌜ hostOutcome r (now (costs .exit)) (lent (now (tags .exit)) (now (state .exit)) (now (window .exit)))
         ≡ runTraceAtOf (now (trace .entry)) (now (costs .entry)) (lent (now (tags .entry)) (now (state .entry)) (now (window .entry))) ⌝ }
 {
-    let given = timing_at(*tags, *state, *window);
+    let given = in_place::timing_at(*tags, *state, *window);
     let ran = trace::run_trace(trace, costs, given);
     let next = ran.timing;
     put_timing(tags, state, window, next);
@@ -269,7 +200,7 @@ fn record_at(records: &[u32], i: usize) -> Retirement
     let ppc = records[at + 1];
     let pc = records[at + 2];
     let raw = little_endian::i32_of(records[at + 3]);
-    retirement((head % 65536) as u16, (head / 65536) as u16, ppc, pc, raw)
+    in_place::retirement((head % 65536) as u16, (head / 65536) as u16, ppc, pc, raw)
 }
 
 // The records of a batch that is accepted, each in place.
@@ -285,20 +216,16 @@ fn run_words(
         ≡ batchOutcomeOf (acceptedOf (retirementsOf (now (records .entry))) (now (costs .entry)) (stateAt (lent (now (tags .entry)) (now (state .entry)) (now (window .entry))))) ⌝ }
 {
     let count = records.len() / 4;
-    let came = window_at(*window);
-    let mut w = came.seen();
+    see_window(window);
     let mut total: u64 = 0;
     let mut i: usize = 0;
     while i < count {
         let r = record_at(records, i);
-        let retired = step::cycles_in_place(tags, state, w, r);
-        w = retired.window;
-        let cost = retired.cost.0;
+        let cost = in_place::retire_in_place(tags, state, window, r);
         costs[i] = cost;
         total += cost as u64;
         i += 1;
     }
-    put_window(window, w);
     host_ran(Verdict::Accepted, count, total)
 }
 
@@ -342,7 +269,7 @@ pub extern "C" fn timing_060_image_write_at(
 ) -> HostRan
     ensures { λ r. ⌜ hostImage r (now (image .exit)) ≡ imageWriteAtOf (lent (now (tags .entry)) (now (state .entry)) (now (window .entry))) (now (image .entry)) ⌝ }
 {
-    let timing = timing_at(*tags, *state, *window);
+    let timing = in_place::timing_at(*tags, *state, *window);
     let written = image::image_write(timing, image);
     let verdict = written.verdict;
     host_ran(verdict, written.written, 0)

@@ -1,5 +1,5 @@
-pub mod Raw
-pub mod Rules
+pub mod Largest
 pub mod Sound
 pub mod Zero
 pub mod Seen
+pub mod Led

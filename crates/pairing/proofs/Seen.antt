@@ -5,12 +5,13 @@ use mathlib.Core.Bool.{Bool, true, false, cond, _&&_}
 use Prim.Native.Nat.{_-_}
 use lib.Dec.{eqb}
 use Rattle.class_word.specs.Word.{has, classOf, DBCC}
-use Rattle.pairing.specs.declared.Instruction.{Instruction}
-use Rattle.pairing.specs.declared.Controls.{Controls}
-use Rattle.pairing.specs.declared.Window.{Window}
+use Rattle.dispatch.specs.declared.Instruction.{Instruction}
+use Rattle.dispatch.specs.declared.Controls.{Controls}
+use Rattle.dispatch.specs.declared.Window.{Window}
 use Rattle.pairing.specs.declared.Answer.{Answer}
-use Rattle.pairing.specs.Retiring.{retiring, shut, seen, takenOf, Kind, branch, flow, neither, kindOf}
-use Rattle.pairing.specs.Dispatch.{passes}
+use Rattle.pairing.specs.Retiring.{retiring, takenOf, Kind, branch, flow, neither, kindOf}
+use Rattle.dispatch.specs.Windows.{shut, seen}
+use Rattle.dispatch.specs.Dispatch.{passes}
 use Rattle.pairing.specs.Cost.{branchCost, baseOf, pairs, headOf, costBy, windowBy, costOf, windowOf}
 
 module _ (i : Instruction) (k : Controls) (w : Window) (a : Answer) where

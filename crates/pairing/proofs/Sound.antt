@@ -8,15 +8,15 @@ use lib.Dec.{eqb, leb}
 use borrow.Author.Tests.{eqb-true, eq-eqb, leb-true, not-true}
 use Rattle.bits.proofs.Bools.{and-left, and-right}
 use Rattle.class_word.specs.Word.{has, classOf, clocksOf, BRANCH, VARIABLE, UNCLASSIFIED, «EA_INDEXED»}
-use Rattle.pairing.specs.declared.Instruction.{Instruction}
-use Rattle.pairing.specs.declared.Controls.{Controls}
-use Rattle.pairing.specs.declared.Window.{Window}
-use Rattle.pairing.specs.Raw.{fallbackOf}
-use Rattle.pairing.specs.Dispatch.{passes}
+use Rattle.dispatch.specs.declared.Instruction.{Instruction}
+use Rattle.dispatch.specs.declared.Controls.{Controls}
+use Rattle.dispatch.specs.declared.Window.{Window}
+use Rattle.raw.specs.Raw.{fallbackOf}
+use Rattle.dispatch.specs.Dispatch.{passes}
 use Rattle.pairing.specs.Cost.{plainOf, baseOf}
 use Rattle.pairing.specs.Free.{sound}
-use Rattle.pairing.proofs.Raw.{fallback-least}
-use Rattle.pairing.proofs.Rules.{passes-simple}
+use Rattle.raw.proofs.Raw.{fallback-least}
+use Rattle.dispatch.proofs.Rules.{passes-simple}
 
 -- what a sound word has
 pub record Sound (word : ℕ) : Type 0 where

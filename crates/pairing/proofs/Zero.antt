@@ -8,13 +8,14 @@ use lib.Dec.{eqb}
 use borrow.Author.Tests.{eq-eqb, ne-eqb}
 use Rattle.bits.proofs.Bools.{and-left, and-right}
 use Rattle.class_word.specs.Word.{has, BRANCH, DBCC}
-use Rattle.pairing.specs.declared.Instruction.{Instruction}
-use Rattle.pairing.specs.declared.Controls.{Controls}
-use Rattle.pairing.specs.declared.Window.{Window}
+use Rattle.dispatch.specs.declared.Instruction.{Instruction}
+use Rattle.dispatch.specs.declared.Controls.{Controls}
+use Rattle.dispatch.specs.declared.Window.{Window}
 use Rattle.pairing.specs.declared.Answer.{Answer}
 use Rattle.pairing.specs.declared.Answer.the-variants.{NotConsulted, Miss, PredictedNotTaken, PredictedTaken}
-use Rattle.pairing.specs.Retiring.{Retiring, shut, takenOf, predictsTaken, branch, flow, neither, kindOf}
-use Rattle.pairing.specs.Dispatch.{passes}
+use Rattle.pairing.specs.Retiring.{Retiring, takenOf, predictsTaken, branch, flow, neither, kindOf}
+use Rattle.dispatch.specs.Windows.{shut}
+use Rattle.dispatch.specs.Dispatch.{passes}
 use Rattle.pairing.specs.Cost.{staticCost, askedCost, branchCost, flowCost, baseOf, pairs, costBy, windowBy, costOf, windowOf}
 use Rattle.pairing.specs.Free.{sound, joins, folds, free}
 use Rattle.pairing.proofs.Sound.{base-least, passes-base, passes-unbranched, branch-fails}

@@ -8,11 +8,12 @@
 --   plainOf word raw                   ==  "the fallback if VARIABLE or UNCLASSIFIED, or the packed clocks"
 --   baseOf i k                         ==  the base                                    "plus 1 if indexed"
 --   pairs i k w                        ==  it joins the head                           "If the window is open and the dispatch test passes"
---   headOf i k                         ==  the window with this instruction as head    "the window becomes this instruction's, unless its class
---                                                                                      is 1, which shuts it"
+--   asHead i k                         ==  the window with this instruction as head    "the window becomes this instruction's"
+--   headOf i k                         ==  the window that it leaves if it joins none  "unless its class is 1, which shuts it"
 --   costBy, windowBy                   ==  cost and next window, one line for each of document 01's three points
+--   chargedBy                          ==  the cost, and whether the next window is open
 --   costOf r, windowOf r               ==  what the retirement r costs, and the window that it leaves
---   retire r                           ==  both, as the code hands them back
+--   retire r                           ==  cost and next window, as the code hands them back
 --
 -- In `costBy` the base less 1 is 0 where the base is 0, as the Rust's `.max(0)` has it.
 use Prim.Native.Nat.{ℕ, _+_, _-_, max}
@@ -20,14 +21,16 @@ use mathlib.Core.Bool.{Bool, true, false, cond, _&&_, _||_}
 use lib.Dec.{eqb}
 use lib.IntN.{ℤ}
 use Rattle.class_word.specs.Word.{has, classOf, clocksOf, clocks, DBCC, VARIABLE, UNCLASSIFIED, «EA_INDEXED», «DEFINES_CCR»}
-use Rattle.pairing.specs.Raw.{fallbackOf}
-use Rattle.pairing.specs.Retiring.{Retiring, shut, takenOf, predictsTaken, Kind, branch, flow, neither, kindOf}
-use Rattle.pairing.specs.Dispatch.{memory, passes}
-use Rattle.pairing.specs.declared.Instruction.{Instruction}
-use Rattle.pairing.specs.declared.Controls.{Controls}
-use Rattle.pairing.specs.declared.Window.{Window}
+use Rattle.raw.specs.Raw.{fallbackOf}
+use Rattle.pairing.specs.Retiring.{Retiring, takenOf, predictsTaken, Kind, branch, flow, neither, kindOf}
+use Rattle.dispatch.specs.Windows.{shut}
+use Rattle.dispatch.specs.Dispatch.{memory, passes}
+use Rattle.dispatch.specs.declared.Instruction.{Instruction}
+use Rattle.dispatch.specs.declared.Controls.{Controls}
+use Rattle.dispatch.specs.declared.Window.{Window}
 use Rattle.pairing.specs.declared.Answer.{Answer}
 use Rattle.pairing.specs.declared.Answer.the-variants.{NotConsulted, Miss, PredictedNotTaken, PredictedTaken}
+use Rattle.pairing.specs.declared.Charged.{Charged}
 use Rattle.pairing.specs.declared.Retired.{Retired}
 
 abbrev pub staticCost : Bool → Bool → ℕ
@@ -57,17 +60,18 @@ baseOf i k = plainOf (i .word .0) (k .raw .0) + cond (has (i .word .0) «EA_INDE
 unfoldable pub pairs : Instruction → Controls → Window → Bool
 pairs i k w = w .opened && passes i k w
 
-unfoldable pub headOf : Instruction → Controls → Window
-headOf i k =
-    cond (eqb (classOf (i .word .0)) 1)
-    shut
-    (record {
+abbrev pub asHead : Instruction → Controls → Window
+asHead i k =
+    record {
       opened = true;
       defs = i .defs;
       ccr = has (i .word .0) «DEFINES_CCR»;
       mem = memory (i .word .0);
       warm = k .cached;
-    })
+    }
+
+unfoldable pub headOf : Instruction → Controls → Window
+headOf i k = cond (eqb (classOf (i .word .0)) 1) shut (asHead i k)
 
 abbrev pub costBy : Kind → Instruction → Controls → Window → Answer → ℕ
 costBy branch i k w a = branchCost (has (i .word .0) DBCC) (takenOf i k) (w .opened) a
@@ -78,6 +82,9 @@ abbrev pub windowBy : Kind → Instruction → Controls → Window → Window
 windowBy branch i k w = shut
 windowBy flow i k w = shut
 windowBy neither i k w = cond (pairs i k w) shut (headOf i k)
+
+abbrev pub chargedBy : Kind → Instruction → Controls → Window → Answer → Charged
+chargedBy x i k w a = record { cost = clocks (costBy x i k w a); heads = windowBy x i k w .opened }
 
 unfoldable pub costOf : Retiring → ℕ
 costOf r = costBy (kindOf (r .instruction) (r .controls)) (r .instruction) (r .controls) (r .window) (r .answer)

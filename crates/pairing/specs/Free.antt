@@ -11,7 +11,7 @@ use mathlib.Core.Bool.{Bool, not, _&&_, _||_}
 use lib.Dec.{eqb, leb}
 use Rattle.class_word.specs.Word.{has, classOf, clocksOf, BRANCH}
 use Rattle.pairing.specs.Retiring.{Retiring, takenOf, predictsTaken}
-use Rattle.pairing.specs.Dispatch.{passes}
+use Rattle.dispatch.specs.Dispatch.{passes}
 
 unfoldable pub sound : ℕ → Bool
 sound word =

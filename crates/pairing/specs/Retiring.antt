@@ -2,22 +2,20 @@
 --
 --   Retiring           ==  a retirement as it is met: the instruction, the controls, the window before it and the cache's answer
 --   retiring i k w a   ==  the retirement that has these four
---   shut               ==  the shut window                             "A shut window has zeros"
---   seen w             ==  the window w as it is read                  "A state handed in shut with other window fields set is read, and handed
---                                                                      back, as if they were zero"
 --   takenOf i k        ==  a branch is taken                           "taken is `flowed`; for DBcc it is pc different from ppc + 4 modulo 2^32,
 --                                                                      `flowed` ignored"
 --   predictsTaken a    ==  the cache predicted the branch taken; a miss does not (the Rust's `predict(..).unwrap_or(false)`), nor does a cache
 --                          that was not asked
 --   Kind, kindOf i k   ==  which of the three points of "One retirement" it is:
 --                          `branch` "1. BRANCH", `flow` "2. Else, flowed", `neither` "3. Else"
+--   otherKind k        ==  which of the last two, of what is no branch
 use Prim.Native.Nat.{_+_, _%_, _^_}
 use mathlib.Core.Bool.{Bool, true, false, not, cond}
 use lib.Dec.{eqb}
 use Rattle.class_word.specs.Word.{has, BRANCH, DBCC}
-use Rattle.pairing.specs.declared.Instruction.{Instruction}
-use Rattle.pairing.specs.declared.Controls.{Controls}
-use Rattle.pairing.specs.declared.Window.{Window}
+use Rattle.dispatch.specs.declared.Instruction.{Instruction}
+use Rattle.dispatch.specs.declared.Controls.{Controls}
+use Rattle.dispatch.specs.declared.Window.{Window}
 use Rattle.pairing.specs.declared.Answer.{Answer}
 use Rattle.pairing.specs.declared.Answer.the-variants.{NotConsulted, Miss, PredictedNotTaken, PredictedTaken}
 
@@ -29,12 +27,6 @@ pub record Retiring : Type 0 where
 
 abbrev pub retiring : Instruction → Controls → Window → Answer → Retiring
 retiring i k w a = record { instruction = i; controls = k; window = w; answer = a }
-
-abbrev pub shut : Window
-shut = record { opened = false; defs = 0; ccr = false; mem = false; warm = false }
-
-abbrev pub seen : Window → Window
-seen w = cond (w .opened) w shut
 
 unfoldable pub takenOf : Instruction → Controls → Bool
 takenOf i k = cond (has (i .word .0) DBCC) (not (eqb (k .pc) ((k .ppc + 4) % 2 ^ 32))) (k .flowed)
@@ -48,5 +40,8 @@ predictsTaken PredictedTaken = true
 pub data Kind : Type 0 where
   branch flow neither : Kind
 
+abbrev pub otherKind : Controls → Kind
+otherKind k = cond (k .flowed) flow neither
+
 unfoldable pub kindOf : Instruction → Controls → Kind
-kindOf i k = cond (has (i .word .0) BRANCH) branch (cond (k .flowed) flow neither)
+kindOf i k = cond (has (i .word .0) BRANCH) branch (otherKind k)

@@ -1,23 +1,24 @@
-// Part 5 of document 01: raw counts, the window, the dispatch test, the branch's cost, and one retirement.
+// Part 5 of document 01: the branch's cost, and one retirement.
 ghost use mathlib.Core.Path.{_≡_};
+ghost use mathlib.Core.Bool.{not};
 ghost use Prim.Native.Nat.{_-_};
-ghost use Rattle.class_word.specs.Word.{clocks};
-ghost use Rattle.pairing.specs.Raw.{fallbackOf};
-ghost use Rattle.pairing.specs.Retiring.{retiring, shut, seen, takenOf};
-ghost use Rattle.pairing.specs.Dispatch.{memory, isSimple, lateCcr, secondMemory, passes};
-ghost use Rattle.pairing.specs.Cost.{branchCost, flowCost, plainOf, baseOf, pairs, headOf, retire};
+ghost use lib.Dec.{eqb};
+ghost use Rattle.class_word.specs.Word.{clocks, classOf, has, DBCC};
+ghost use Rattle.pairing.specs.Retiring.{retiring, takenOf, otherKind};
+ghost use Rattle.pairing.specs.Cost.{branchCost, flowCost, plainOf, baseOf, pairs, asHead, chargedBy, retire};
+ghost use Rattle.pairing.specs.declared.Answer.the-variants.{NotConsulted};
 use class_word::Clocks;
 use class_word::F_BRANCH;
 use class_word::F_DBCC;
 use class_word::F_DEFINES_CCR;
 use class_word::F_EA_INDEXED;
-use class_word::F_READS_MEM;
 use class_word::F_UNCLASSIFIED;
-use class_word::F_USES_CCR_LATE;
 use class_word::F_VARIABLE;
-use class_word::F_WRITES_MEM;
 use class_word::Info060;
-use class_word::OepClass;
+use dispatch::Controls;
+use dispatch::Instruction;
+use dispatch::Window;
+use raw::RawCount;
 
 pub const CYC_060_BRANCH_TAKEN: u32 = 7;
 
@@ -31,43 +32,6 @@ pub const CYC_060_FLOW_MIN: u32 = 5;
 
 pub const CYC_060_MISPREDICT: u32 = 7;
 
-// A raw 68000 count; only `fallback_cycles` makes clocks of it.
-pub struct RawCount(pub i32);
-
-// What an instruction is to the pairing window.
-pub struct Instruction {
-    pub word: Info060,
-    // use_mask
-    pub uses: u16,
-    // def_mask
-    pub defs: u16,
-}
-
-// What the host passes with a retirement, besides the opcode.
-pub struct Controls {
-    pub flowed: bool,
-    pub cached: bool,
-    pub ess: bool,
-    pub ebc: bool,
-    pub supervisor: bool,
-    pub ppc: u32,
-    pub pc: u32,
-    pub raw: RawCount,
-}
-
-// The Rust's Option<PendingHead060>: `opened` says whether there is a head; the other fields are the head's.
-pub struct Window {
-    pub opened: bool,
-    // def_mask
-    pub defs: u16,
-    // defines_ccr
-    pub ccr: bool,
-    // accessed_mem
-    pub mem: bool,
-    // head_cached
-    pub warm: bool,
-}
-
 // What the branch cache said of a branch before it retired.
 pub enum Answer {
     NotConsulted,
@@ -76,42 +40,16 @@ pub enum Answer {
     PredictedTaken,
 }
 
+// What one retirement costs, and whether its instruction becomes the head.
+pub struct Charged {
+    pub cost: Clocks,
+    pub heads: bool,
+}
+
 // What one retirement costs, and the window that it leaves.
 pub struct Retired {
     pub cost: Clocks,
     pub window: Window,
-}
-
-impl Window {
-    pub fn shut() -> Window
-        ensures { λ r. ⌜ r ≡ shut ⌝ }
-    {
-        Window {
-            opened: false,
-            defs: 0,
-            ccr: false,
-            mem: false,
-            warm: false,
-        }
-    }
-
-    // A window as it is read: a shut one has zeros.
-    pub fn seen(self) -> Window
-        ensures { λ r. ⌜ r ≡ seen self ⌝ }
-    {
-        if self.opened { self } else { Window::shut() }
-    }
-}
-
-// Truncated toward zero, at least 1.
-pub fn fallback_cycles(raw: RawCount) -> Clocks
-    ensures { λ r. ⌜ r ≡ clocks (fallbackOf (raw .0)) ⌝ }
-{
-    let quarter = raw.0 / 4;
-    if quarter < 1 {
-        return Clocks(1);
-    }
-    Clocks(quarter as u32)
 }
 
 // Whether a branch is taken; DBcc does not raise `flowed`, so it is told by where it went.
@@ -129,7 +67,7 @@ pub fn taken(i: Instruction, k: Controls) -> bool
 fn flow_cost(raw: RawCount) -> Clocks
     ensures { λ r. ⌜ r ≡ clocks (flowCost (raw .0)) ⌝ }
 {
-    let cycles = fallback_cycles(raw);
+    let cycles = raw::fallback_cycles(raw);
     if cycles.0 < CYC_060_FLOW_MIN {
         Clocks(CYC_060_FLOW_MIN)
     } else {
@@ -142,10 +80,10 @@ fn plain(word: Info060, raw: RawCount) -> Clocks
     ensures { λ r. ⌜ r ≡ clocks (plainOf (word .0) (raw .0)) ⌝ }
 {
     if word.has(F_VARIABLE) {
-        return fallback_cycles(raw);
+        return raw::fallback_cycles(raw);
     }
     if word.has(F_UNCLASSIFIED) {
-        return fallback_cycles(raw);
+        return raw::fallback_cycles(raw);
     }
     word.cycles()
 }
@@ -160,37 +98,31 @@ fn base(i: Instruction, k: Controls) -> Clocks
     cycles
 }
 
-// The instruction has a memory operand.
-fn memory(word: Info060) -> bool
-    ensures { λ r. ⌜ r ≡ memory (word .0) ⌝ }
-{
-    if word.has(F_READS_MEM) {
-        return true;
-    }
-    word.has(F_WRITES_MEM)
-}
-
-// The window that an instruction leaves when it joins no pair.
+// The window with this instruction as head.
 fn head(i: Instruction, k: Controls) -> Window
-    ensures { λ r. ⌜ r ≡ headOf i k ⌝ }
+    ensures { λ r. ⌜ r ≡ asHead i k ⌝ }
 {
-    if class_word::class_number(i.word.class()) == 1 {
-        return Window::shut();
-    }
     Window {
         opened: true,
         defs: i.defs,
         ccr: i.word.has(F_DEFINES_CCR),
-        mem: memory(i.word),
+        mem: dispatch::memory(i.word),
         warm: k.cached,
     }
+}
+
+// Whether an instruction that joins no pair becomes the head: class 1 occupies both pipelines.
+fn leads(word: Info060) -> bool
+    ensures { λ r. ⌜ r ≡ not (eqb (classOf (word .0)) 1) ⌝ }
+{
+    class_word::class_number(word.class()) != 1
 }
 
 fn pairs(i: Instruction, k: Controls, w: Window) -> bool
     ensures { λ r. ⌜ r ≡ pairs i k w ⌝ }
 {
     if w.opened {
-        return soep_dispatch_test(i, k, w);
+        return dispatch::soep_dispatch_test(i, k, w);
     }
     false
 }
@@ -206,105 +138,55 @@ fn less_one(cycles: Clocks) -> Clocks
     }
 }
 
+// What a branch costs; the window is shut behind it.
+pub fn charge_branch(i: Instruction, k: Controls, opened: bool, answer: Answer) -> Clocks
+    ensures { λ r. ⌜ r ≡ clocks (branchCost (has (i .word .0) DBCC) (takenOf i k) opened answer) ⌝ }
+{
+    branch_cost_060(i.word.has(F_DBCC), taken(i, k), opened, answer)
+}
+
+// What any other instruction costs, and whether it becomes the head.
+pub fn charge_other(i: Instruction, k: Controls, w: Window) -> Charged
+    ensures { λ r. ⌜ r ≡ chargedBy (otherKind k) i k w NotConsulted ⌝ }
+{
+    if k.flowed {
+        let cost = flow_cost(k.raw);
+        return Charged { cost, heads: false };
+    }
+    let cycles = base(i, k);
+    if pairs(i, k, w) {
+        let cost = less_one(cycles);
+        let heads = false; // a pair is full
+        return Charged { cost, heads };
+    }
+    Charged {
+        cost: cycles,
+        heads: leads(i.word),
+    }
+}
+
 // What one retirement costs, and the window that it leaves: the Rust's cycles_060 past the lookup of the instruction.
 pub fn retire(i: Instruction, k: Controls, w: Window, answer: Answer) -> Retired
     ensures { λ r. ⌜ r ≡ retire (retiring i k w answer) ⌝ }
 {
-    let closed = Window::shut();
     if i.word.has(F_BRANCH) {
-        let cost = branch_cost_060(i.word.has(F_DBCC), taken(i, k), w.opened, answer);
+        return Retired {
+            cost: charge_branch(i, k, w.opened, answer),
+            window: Window::shut(),
+        };
+    }
+    let charged = charge_other(i, k, w);
+    let cost = charged.cost;
+    if charged.heads {
         return Retired {
             cost,
-            window: closed,
-        };
-    }
-    if k.flowed {
-        return Retired {
-            cost: flow_cost(k.raw),
-            window: closed,
-        };
-    }
-    let cycles = base(i, k);
-    if pairs(i, k, w) {
-        return Retired {
-            cost: less_one(cycles),
-            window: closed,
+            window: head(i, k),
         };
     }
     Retired {
-        cost: cycles,
-        window: head(i, k),
+        cost,
+        window: Window::shut(),
     }
-}
-
-// Class 0 and nothing that keeps it out of the second pipeline.
-fn simple(word: Info060) -> bool
-    ensures { λ r. ⌜ r ≡ isSimple (word .0) ⌝ }
-{
-    let class = word.class();
-    match class {
-        OepClass::PoepSoep => {
-            if word.has(F_EA_INDEXED) {
-                return false;
-            }
-            if word.has(F_UNCLASSIFIED) {
-                return false;
-            }
-            if word.has(F_VARIABLE) {
-                return false;
-            }
-            true
-        }
-        OepClass::PoepOnly => false,
-        OepClass::PoepUntilLast => false,
-        OepClass::PoepButAllowsSoep => false,
-    }
-}
-
-fn late_ccr(word: Info060, w: Window) -> bool
-    ensures { λ r. ⌜ r ≡ lateCcr (word .0) w ⌝ }
-{
-    if word.has(F_USES_CCR_LATE) {
-        return w.ccr;
-    }
-    false
-}
-
-fn second_memory(word: Info060, w: Window) -> bool
-    ensures { λ r. ⌜ r ≡ secondMemory (word .0) w ⌝ }
-{
-    if memory(word) {
-        return w.mem;
-    }
-    false
-}
-
-// The first rule that fails refuses the pair.
-pub fn soep_dispatch_test(i: Instruction, k: Controls, w: Window) -> bool
-    ensures { λ r. ⌜ r ≡ passes i k w ⌝ }
-{
-    if !k.ess {
-        return false;
-    }
-    if !w.warm {
-        return false;
-    }
-    if !k.cached {
-        return false;
-    }
-    if !simple(i.word) {
-        return false;
-    }
-    if (i.uses | i.defs) & w.defs != 0 {
-        return false;
-    }
-    if late_ccr(i.word, w) {
-        return false;
-    }
-    if second_memory(i.word, w) {
-        return false;
-    }
-    true
 }
 
 // The answer stands for EBC and the fetch too: with either off, the cache is not consulted.

@@ -7,7 +7,7 @@
 use Prim.Native.Nat.{ℕ}
 use mathlib.Core.Bool.{Bool}
 use Rattle.branch_cache.specs.declared.Predicted.{Predicted}
-use Rattle.pairing.specs.declared.Instruction.{Instruction}
+use Rattle.dispatch.specs.declared.Instruction.{Instruction}
 
 abbrev pub Profile : Type 0
 Profile = ℕ → Instruction

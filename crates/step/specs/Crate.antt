@@ -1,19 +1,14 @@
 -- The board of document 000: its classifier and masks, and its branch cache of 256 slots.
 --
---   crateProfile op   ==  the class word and masks of an opcode     the Rust's info_060 and reg_masks_060
 --   crateCache        ==  the cache of 256 slots                    the Rust's BranchCache060
---   slotCache         ==  one slot alone, as a cache: what a run needs of the cache for one retirement
+--   cacheAt ts bs     ==  the cache of these tags and bytes
 --   crateBoard        ==  both
-use Rattle.class_word.specs.Word.{info}
-use Rattle.classifier.specs.Classify.{classifyOf}
-use Rattle.masks.specs.Masks.{masksOf}
+use Prim.Native.Nat.{ℕ}
+use mathlib.Core.List.{List}
+use Rattle.profile.specs.Profile.{crateProfile}
 use Rattle.branch_cache.specs.declared.BranchCache060.{BranchCache060}
-use Rattle.branch_cache.specs.declared.Slot.{Slot}
-use Rattle.branch_cache.specs.Cache.{predictOf, updateOf, cachePredictOf, cacheUpdateOf, clearAllOf, clearUserOf, clearUserByteOf}
-use Rattle.step.specs.Board.{Profile, CacheRule, Board}
-
-abbrev pub crateProfile : Profile
-crateProfile op = record { word = info (classifyOf op); uses = masksOf op .uses; defs = masksOf op .defs }
+use Rattle.branch_cache.specs.Cache.{cachePredictOf, cacheUpdateOf, clearAllOf, clearUserOf}
+use Rattle.step.specs.Board.{CacheRule, Board}
 
 abbrev pub crateCache : CacheRule
 crateCache =
@@ -25,15 +20,8 @@ crateCache =
       clearUser = clearUserOf;
     }
 
-abbrev pub slotCache : CacheRule
-slotCache =
-    record {
-      Cache = Slot;
-      predict = predictOf;
-      update = updateOf;
-      clearAll = λ slot. record { tag = slot .tag; byte = 0 };
-      clearUser = λ slot. record { tag = slot .tag; byte = clearUserByteOf (slot .byte) };
-    }
+abbrev pub cacheAt : List ℕ → List ℕ → BranchCache060
+cacheAt tags state = record { tags = tags; state = state }
 
 abbrev pub crateBoard : Board
 crateBoard = record { profile = crateProfile; rule = crateCache }

@@ -1,7 +1,7 @@
 -- `timing_060_run_batch_at`: refusal 1, then refusal 7, then the run.
 -- Assumes nothing.
 use Rattle.outcome.specs.declared.Refusal.the-variants.{Oversized, Room}
-use Rattle.host.specs.Lent.{lent}
+use Rattle.in_place.specs.Lent.{lent}
 use Rattle.host.proofs.Batch.{judge-oversized, judge-room, judge-accepted, batch-refused, batch-accepted}
 use borrow.Author.Needs.{needs}
 use Rattle.host.proofs.timing_060_run_batch_at.Statement.{statement}

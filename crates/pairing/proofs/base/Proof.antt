@@ -8,7 +8,7 @@ use mir.Syntax.{w32}
 use borrow.Author.Needs.{needs}
 use Rattle.class_word.specs.declared.Clocks.{Clocks}
 use Rattle.pairing.specs.Cost.{baseOf}
-use Rattle.pairing.proofs.Raw.{plain-most}
+use Rattle.pairing.proofs.Largest.{plain-most}
 use Rattle.pairing.proofs.base.Statement.{statement}
 use Rattle.pairing.proofs.base.Tie as tie
 

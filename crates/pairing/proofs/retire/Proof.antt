@@ -1,107 +1,82 @@
--- `retire`: the three kinds in document 01's order, each with what its parts promise.
+-- `retire`: a branch shuts the window; of any other the window is its own where it becomes the head, and else is shut.
 -- Assumes nothing.
-use mathlib.Core.Path.{sym}
+use mathlib.Core.Path.{sym, ap, ap₂, _∙_}
 use borrow.Author.Needs.{needs}
-use Rattle.pairing.specs.Retiring.{kindOf}
-use Rattle.pairing.specs.Cost.{costOf, windowOf}
+use Rattle.class_word.specs.declared.Clocks.{Clocks}
+use Rattle.class_word.specs.Word.{clocks}
+use Rattle.dispatch.specs.declared.Window.{Window}
+use Rattle.pairing.specs.declared.Charged.{Charged}
+use Rattle.pairing.specs.declared.Retired.{Retired}
+use Rattle.pairing.specs.Retiring.{Kind, otherKind}
+use Rattle.pairing.specs.Cost.{costBy, windowBy, costOf, windowOf}
+use Rattle.pairing.proofs.Led.{led-open, led-shut, kind-branch, kind-other, other-cost}
 use Rattle.pairing.proofs.retire.Statement.{statement}
 use Rattle.pairing.proofs.retire.Tie as tie
 
-shut-requires : tie.Need-shut-requires
-shut-requires c κs = search needs
+abbrev retired : Clocks → Window → Retired
+retired cost window = record { cost = cost; window = window }
 
 has-requires : tie.Need-has-requires
 has-requires c κs = search needs
 
-has-requires-2 : tie.Need-has-requires-2
-has-requires-2 c κs = search needs
+charge-branch-requires : tie.Need-charge-branch-requires
+charge-branch-requires c κs = search needs
 
-taken-requires : tie.Need-taken-requires
-taken-requires c κs = search needs
-
-branch-cost-060-requires : tie.Need-branch-cost-060-requires
-branch-cost-060-requires c κs = search needs
+shut-requires : tie.Need-shut-requires
+shut-requires c κs = search needs
 
 returns : tie.Need-returns
-unfolding costOf windowOf kindOf
+unfolding costOf windowOf
 returns c =
-    simp (
-      c .before .before .before .before .before .shut .ensures,
-      sym (c .before .before .before .before .has .ensures),
-      c .before .before .before .if1 .taken,
-      c .before .before .has2 .ensures,
-      c .before .taken .ensures,
-      c .branch-cost-060 .ensures,
-    )
+    let h = c .before .before .before in
+    let a = h .before .args in
+    let kind = kind-branch (a .i) (a .k) (sym (h .has .ensures) ∙ c .before .before .if1 .taken) in
+    rw (c .shut .ensures, c .before .charge-branch .ensures, kind)
 
-flow-cost-requires : tie.Need-flow-cost-requires
-flow-cost-requires c κs = search needs
+charge-other-requires : tie.Need-charge-other-requires
+charge-other-requires c κs = search needs
 
-returns-2 : tie.Need-returns-2
-unfolding costOf windowOf kindOf
-returns-2 c =
-    simp (
-      c .before .before .before .before .shut .ensures,
-      sym (c .before .before .before .has .ensures),
-      c .before .before .if1 .left,
-      c .before .if2 .taken,
-      c .flow-cost .ensures,
-    )
-
-base-requires : tie.Need-base-requires
-base-requires c κs = search needs
-
-pairs-requires : tie.Need-pairs-requires
-pairs-requires c κs = search needs
-
-less-one-requires : tie.Need-less-one-requires
-less-one-requires c κs = search needs
-
-returns-3 : tie.Need-returns-3
-unfolding costOf windowOf kindOf
-returns-3 c =
-    simp (
-      c .before .before .before .before .before .before .before .shut .ensures,
-      sym (c .before .before .before .before .before .before .has .ensures),
-      c .before .before .before .before .before .if1 .left,
-      c .before .before .before .before .if2 .left,
-      c .before .before .before .base .ensures,
-      sym (c .before .before .pairs .ensures),
-      c .before .if3 .taken,
-      c .less-one .ensures,
-    )
+abbrev byKind : tie.After-charge-other → Kind → Retired
+byKind o x =
+    let a = o .before .before .before .args in
+    retired (clocks (costBy x (a .i) (a .k) (a .w) (a .answer))) (windowBy x (a .i) (a .k) (a .w))
 
 head-requires : tie.Need-head-requires
 head-requires c κs = search needs
 
-returns-4 : tie.Need-returns-4
-unfolding costOf windowOf kindOf
-returns-4 c =
-    simp (
-      sym (c .before .before .before .before .before .before .has .ensures),
-      c .before .before .before .before .before .if1 .left,
-      c .before .before .before .before .if2 .left,
-      c .before .before .before .base .ensures,
-      sym (c .before .before .pairs .ensures),
-      c .before .if3 .left,
-      c .head .ensures,
-    )
+returns-2 : tie.Need-returns-2
+unfolding costOf windowOf
+returns-2 c =
+    let o = c .before .before .before in
+    let e = o .charge-other .ensures in
+    let a = o .before .before .before .args in
+    let led = led-open (otherKind (a .k)) (a .i) (a .k) (a .w) (sym (ap (λ (x : Charged). x .heads) e) ∙ c .before .if2 .taken) in
+    ap₂ retired (ap (λ (x : Charged). x .cost) e ∙ ap clocks (other-cost (a .i) (a .k) (a .w) _ (a .answer))) (c .head .ensures ∙ sym led)
+    ∙ ap (byKind o) (sym (kind-other (a .i) (a .k) (sym (o .before .before .has .ensures) ∙ o .before .if1 .left)))
+
+shut-requires-2 : tie.Need-shut-requires-2
+shut-requires-2 c κs = search needs
+
+returns-3 : tie.Need-returns-3
+unfolding costOf windowOf
+returns-3 c =
+    let o = c .before .before .before in
+    let e = o .charge-other .ensures in
+    let a = o .before .before .before .args in
+    let closed = led-shut (otherKind (a .k)) (a .i) (a .k) (a .w) (sym (ap (λ (x : Charged). x .heads) e) ∙ c .before .if2 .left) in
+    ap₂ retired (ap (λ (x : Charged). x .cost) e ∙ ap clocks (other-cost (a .i) (a .k) (a .w) _ (a .answer))) (c .shut2 .ensures ∙ sym closed)
+    ∙ ap (byKind o) (sym (kind-other (a .i) (a .k) (sym (o .before .before .has .ensures) ∙ o .before .if1 .left)))
 
 pub retire-spec : {M : Type 1} → statement M
 retire-spec =
     tie.close
     (tie.spec
-    shut-requires
     has-requires
-    has-requires-2
-    taken-requires
-    branch-cost-060-requires
+    charge-branch-requires
+    shut-requires
     returns
-    flow-cost-requires
-    returns-2
-    base-requires
-    pairs-requires
-    less-one-requires
-    returns-3
+    charge-other-requires
     head-requires
-    returns-4)
+    returns-2
+    shut-requires-2
+    returns-3)

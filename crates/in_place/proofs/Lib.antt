@@ -1,0 +1,2 @@
+pub mod Paying
+pub mod Held
