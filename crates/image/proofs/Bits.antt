@@ -7,7 +7,7 @@ use native.Mathlib.Omega.{arith}
 use lib.Dec.{eqb}
 use Rattle.bits.specs.Words.{num, bit}
 use Rattle.bits.proofs.Words.{num-small, num-is}
-use Rattle.pairing.specs.declared.Window.{Window}
+use Rattle.dispatch.specs.declared.Window.{Window}
 use Rattle.image.specs.Image.{bitsOf}
 
 -- a digit that is a yes or no

@@ -13,8 +13,8 @@ use Rattle.bits.specs.Words.{bit}
 use Rattle.bits.proofs.Bools.{and-left, and-right}
 use Rattle.little_endian.specs.Numbers.{numberAt, bytesOf, Below}
 use Rattle.little_endian.proofs.Numbers.{bytes-number}
-use Rattle.pairing.specs.declared.Window.{Window}
-use Rattle.pairing.specs.Retiring.{seen}
+use Rattle.dispatch.specs.declared.Window.{Window}
+use Rattle.dispatch.specs.Windows.{seen}
 use Rattle.outcome.specs.declared.Verdict.the-variants.{Accepted}
 use Rattle.image.specs.Image.{bytesOfEach, bitsOf, headerBytes, windowBytes, imageOf, tagsAt, slotsAt, openAt, defMaskAt, bitsAt, windowAt, stateAt}
 use Rattle.image.specs.Entries.{headerWrong, shutNotZero, windowWrong, judgedOf}

@@ -9,8 +9,8 @@ use lib.ListN.{length, set, length-append, length-set}
 use borrow.Author.Tests.{le-ltb}
 use Rattle.little_endian.specs.Numbers.{bytesOf, putAt}
 use Rattle.little_endian.proofs.Numbers.{put-length, put-joins}
-use Rattle.pairing.specs.declared.Window.{Window}
-use Rattle.pairing.specs.Retiring.{seen}
+use Rattle.dispatch.specs.declared.Window.{Window}
+use Rattle.dispatch.specs.Windows.{seen}
 use Rattle.step.specs.declared.Oep060Timing.{Oep060Timing}
 use Rattle.outcome.specs.declared.Verdict.the-variants.{Accepted}
 use Rattle.image.specs.Image.{bytesOfEach, headerBytes, windowBytes, imageOf}

@@ -12,8 +12,8 @@ use Rattle.bits.specs.Words.{num}
 use Rattle.bits.proofs.Words.{num-small, num-is}
 use Rattle.little_endian.specs.Numbers.{numberAt, bytesOf, Below}
 use Rattle.little_endian.proofs.Numbers.{number-behind, number-bytes}
-use Rattle.pairing.specs.declared.Window.{Window}
-use Rattle.pairing.specs.Retiring.{shut, seen}
+use Rattle.dispatch.specs.declared.Window.{Window}
+use Rattle.dispatch.specs.Windows.{shut, seen}
 use Rattle.step.specs.declared.Oep060Timing.{Oep060Timing}
 use Rattle.step.specs.Step.{seenOf}
 use Rattle.outcome.specs.declared.Verdict.the-variants.{Accepted}

@@ -27,8 +27,8 @@ use lib.Dec.{eqb}
 use lib.ListN.{length}
 use Rattle.bits.specs.Words.{num, bit}
 use Rattle.little_endian.specs.Numbers.{numberAt, bytesOf, Below}
-use Rattle.pairing.specs.declared.Window.{Window}
-use Rattle.pairing.specs.Retiring.{seen}
+use Rattle.dispatch.specs.declared.Window.{Window}
+use Rattle.dispatch.specs.Windows.{seen}
 use Rattle.step.specs.declared.Oep060Timing.{Oep060Timing}
 
 unfoldable pub bytesOfEach : ℕ → List ℕ → List ℕ

@@ -7,9 +7,9 @@ ghost use Rattle.bits.specs.Words.{num};
 ghost use Rattle.image.specs.Image.{bytesOfEach, bitsOf, headerBytes, windowBytes, tagsAt, slotsAt, windowAt, stateAt};
 ghost use Rattle.image.specs.Entries.{headerWrong, windowWrong, judgedOf, outcome, imageWriteOf, imageReadOf};
 use branch_cache::BranchCache060;
+use dispatch::Window;
 use outcome::Refusal;
 use outcome::Verdict;
-use pairing::Window;
 use step::Oep060Timing;
 
 pub const IMAGE_LENGTH: usize = 1288;

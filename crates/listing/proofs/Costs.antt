@@ -13,21 +13,22 @@ use mir.Val.{SFits}
 use Rattle.little_endian.specs.Numbers.{numberAt, bytesOf}
 use Rattle.little_endian.proofs.Numbers.{number-drop, number-bytes, bytes-length}
 use Rattle.class_word.specs.Word.{has, DBCC, «EA_INDEXED»}
-use Rattle.pairing.specs.declared.Instruction.{Instruction}
-use Rattle.pairing.specs.declared.Controls.{Controls}
-use Rattle.pairing.specs.declared.Window.{Window}
+use Rattle.dispatch.specs.declared.Instruction.{Instruction}
+use Rattle.dispatch.specs.declared.Controls.{Controls}
+use Rattle.dispatch.specs.declared.Window.{Window}
 use Rattle.pairing.specs.declared.Answer.{Answer}
 use Rattle.pairing.specs.declared.Answer.the-variants.{NotConsulted, Miss, PredictedNotTaken, PredictedTaken}
 use Rattle.pairing.specs.Retiring.{Retiring, takenOf, Kind, branch, flow, neither, kindOf}
 use Rattle.pairing.specs.Cost.{askedCost, branchCost, baseOf, pairs, costBy, costOf}
-use Rattle.pairing.proofs.Raw.{fallback-most, plain-most}
+use Rattle.raw.proofs.Raw.{fallback-most}
+use Rattle.pairing.proofs.Largest.{plain-most}
 use Rattle.step.specs.declared.Event.{Event}
 use Rattle.step.specs.declared.Event.the-variants.{Retired, Broken, ClearedAll, ClearedUser}
 use Rattle.step.specs.Events.{State, retiringOf, after, retirements, costs, total}
 use Rattle.step.specs.Crate.{crateCache, crateBoard}
 use Rattle.trace.specs.Trace.{countOf}
 use Rattle.trace.specs.Run.{costBytes}
-use Rattle.trace.proofs.Choices.{by-test}
+use Rattle.record.proofs.Choices.{by-test}
 use Rattle.listing.specs.Lines.{opcodesOf, linesFrom, retirementLine}
 use Rattle.listing.specs.Inner.{linesRead}
 use Rattle.listing.proofs.Lengths.{line-most}

@@ -4,5 +4,3 @@ pub mod Costs
 pub mod Lines
 pub mod Listing
 pub mod Within
-pub mod Rows
-pub mod Replaying

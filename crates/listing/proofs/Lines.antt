@@ -13,12 +13,11 @@ use Rattle.step.specs.declared.Retirement.{Retirement}
 use Rattle.step.specs.declared.Event.{Event}
 use Rattle.step.specs.declared.Event.the-variants.{Retired, Broken, ClearedAll, ClearedUser}
 use Rattle.outcome.specs.declared.Refusal.{Refusal}
-use Rattle.trace.specs.declared.Read.the-variants.{Got, Bad, End}
-use Rattle.trace.specs.Record.{readAt}
+use Rattle.record.specs.declared.Read.the-variants.{Got, Bad, End}
+use Rattle.record.specs.Record.{readAt}
 use Rattle.trace.specs.Trace.{Trace, events, refused, ahead, readFrom, countOf}
 use Rattle.trace.specs.Run.{Fits}
-use Rattle.trace.proofs.Reading.{got-within}
-use Rattle.trace.proofs.Walking.{from-end, from-bad, from-got}
+use Rattle.trace.proofs.Walking.{got-within, from-end, from-bad, from-got}
 use Rattle.trace.proofs.Running.{fits-ahead, fits-room}
 use Rattle.listing.specs.Lines.{retirementLine}
 use Rattle.listing.specs.Inner.{linesRead, linesOf}

@@ -1,4 +1,4 @@
--- A trace of at most 65,536 bytes has room for its costs and its text; and the text that is written is the definition'trace.
+-- A trace of at most 65,536 bytes has room for its costs and its text; and the text that is written is the definition's.
 -- Assumes nothing.
 use Prim.Native.Nat.{ℕ, _+_, _*_, _≤_, _<_}
 use mathlib.Core.Path.{_≡_, refl, sym, ap, subst, _∙_}
@@ -17,7 +17,7 @@ use Rattle.outcome.specs.declared.Refusal.{Refusal}
 use Rattle.outcome.specs.declared.Refusal.the-variants.{Oversized}
 use Rattle.outcome.specs.declared.Verdict.the-variants.{Accepted, Refused}
 use Rattle.outcome.specs.declared.Ran.{Ran}
-use Rattle.trace.specs.Record.{remaining}
+use Rattle.record.specs.Record.{remaining}
 use Rattle.trace.specs.Trace.{Trace, events, refused, readTrace, countOf}
 use Rattle.trace.specs.Run as run
 use Rattle.trace.specs.Run.{costsOf, Fits, withRoom, judged, runTraceOf}

@@ -14,17 +14,17 @@ use borrow.Author.Tests.{ltb-true, ltb-false}
 use Rattle.little_endian.specs.Numbers.{signedOf}
 use Rattle.step.specs.declared.Event.{Event}
 use Rattle.step.specs.declared.Event.the-variants.{Retired, Broken, ClearedAll, ClearedUser}
-use Rattle.trace.specs.declared.Kind.{Kind}
-use Rattle.trace.specs.declared.Kind.the-variants.{Retirement, Break, ClearAll, ClearUser}
-use Rattle.trace.specs.declared.KindRead.{KindRead}
-use Rattle.trace.specs.declared.KindRead.the-variants.{Known, Unknown}
-use Rattle.trace.specs.declared.Read.{Read}
-use Rattle.trace.specs.declared.Read.the-variants.{Got, Bad, End}
-use Rattle.trace.specs.Kinds.{payloadLength, kindOf}
-use Rattle.trace.specs.Record.{remaining, lengthAt, kindAt, nextPlace, eventAt, highFlag, recordAt, bodyAt, readAt, retirementAt}
+use Rattle.record.specs.declared.Kind.{Kind}
+use Rattle.record.specs.declared.Kind.the-variants.{Retirement, Break, ClearAll, ClearUser}
+use Rattle.record.specs.declared.KindRead.{KindRead}
+use Rattle.record.specs.declared.KindRead.the-variants.{Known, Unknown}
+use Rattle.record.specs.declared.Read.{Read}
+use Rattle.record.specs.declared.Read.the-variants.{Got, Bad, End}
+use Rattle.record.specs.Kinds.{payloadLength, kindOf}
+use Rattle.record.specs.Record.{remaining, lengthAt, kindAt, nextPlace, eventAt, highFlag, recordAt, bodyAt, readAt, retirementAt}
 use Rattle.trace.specs.Trace.{Trace, events, refused, ahead, goOn, readIn, readFrom, readTrace, countOf}
-use Rattle.trace.proofs.Choices.{by-test}
-use Rattle.trace.proofs.Reading.{got-within}
+use Rattle.record.proofs.Choices.{by-test}
+use Rattle.trace.proofs.Walking.{got-within}
 use Rattle.trace.proofs.Counting.{count-cons, count-one}
 
 signed-fits : (x : ℕ) → SFits w32 (signedOf x)
@@ -34,7 +34,7 @@ signed-fits x =
     (λ h. let l = ltb-true x (2 ^ 31) h in record { sfits = omega arith })
     (λ h. let l = ltb-false x (2 ^ 31) h in record { sfits = omega arith })
 
--- a retirement'trace raw count is a number of 32 bits
+-- a retirement's raw count is a number of 32 bits
 abbrev pub Raw : Event → Type 0
 Raw (Retired r) = SFits w32 (r .controls .raw .0)
 Raw Broken = Unit {0}

@@ -1,4 +1,4 @@
--- Document 01, "Worked instructions": the lines that the tools print. The Rust has none. Every line ends in a newline.
+-- Document 01, "Worked instructions": the lines that the cost lister prints. The Rust has none. Every line ends in a newline.
 --
 --   newline                      ==  the end of a line
 --   refusalLine refusal          ==  `refused N at P`: the number and the place of a refusal   "as `refused 1 at 0` for longer input"
@@ -9,14 +9,11 @@
 --   opcodesOf es                 ==  the opcodes of the retirements among the events, in order
 --   linesFrom index ops ns       ==  a line for each retirement, with the opcodes ops and the costs ns, the first of them with this index
 --                                                                                              "the index counts retirements from 0"
---   hexBytesOf bytes             ==  bytes in upper-case hexadecimal, two digits a byte with nothing between
---   hexRows rows bytes           ==  the bytes in so many lines, 32 bytes to a line as long as there are so many
-use Prim.Native.Nat.{ℕ, zero, suc, _+_}
+use Prim.Native.Nat.{ℕ, _+_}
 use mathlib.Core.List.{List, [], _∷_, _++_}
-use lib.ListN.{take, drop}
 use Rattle.text.specs.Written.{textOf}
 use Rattle.text.specs.Decimal.{decimalOf}
-use Rattle.text.specs.Hex.{hexOf, hexByteOf}
+use Rattle.text.specs.Hex.{hexOf}
 use Rattle.step.specs.declared.Event.{Event}
 use Rattle.step.specs.declared.Event.the-variants.{Retired, Broken, ClearedAll, ClearedUser}
 use Rattle.outcome.specs.declared.Refusal.{Refusal}
@@ -48,11 +45,3 @@ unfoldable pub linesFrom : ℕ → List ℕ → List ℕ → List ℕ
 linesFrom index [] ns = []
 linesFrom index (op ∷ ops) [] = []
 linesFrom index (op ∷ ops) (n ∷ ns) = retirementLine index op n ++ linesFrom (index + 1) ops ns
-
-unfoldable pub hexBytesOf : List ℕ → List ℕ
-hexBytesOf [] = []
-hexBytesOf (byte ∷ bytes) = hexByteOf byte ++ hexBytesOf bytes
-
-unfoldable pub hexRows : ℕ → List ℕ → List ℕ
-hexRows zero bytes = []
-hexRows (suc rows) bytes = hexBytesOf (take 32 bytes) ++ newline ++ hexRows rows (drop 32 bytes)

@@ -1,31 +1,26 @@
-// Part 6 of document 01: the text that the cost lister and the replay print.
+// Part 6 of document 01: the text that the cost lister prints.
 ghost use mathlib.Core.Path.{_≡_};
 ghost use mathlib.Core.List.{_++_};
-ghost use Prim.Native.Nat.{_+_, _*_, _≤_, min};
-ghost use lib.ListN.{length, take, drop};
+ghost use Prim.Native.Nat.{_+_, _≤_};
+ghost use lib.ListN.{length};
 ghost use Rattle.text.specs.Decimal.{decimalOf};
 ghost use Rattle.text.specs.Written.{written, writtenOf};
 ghost use Rattle.trace.specs.Trace.{readTrace};
 ghost use Rattle.trace.specs.Run.{Fits};
-ghost use Rattle.listing.specs.Lines.{newline, refusalLine, headerLine, retirementLine, totalLine, hexBytesOf, hexRows};
-ghost use Rattle.listing.specs.Listing.{judgedOf, outcome, listTraceOf};
-ghost use Rattle.listing.specs.Replay.{shown, replayOf};
+ghost use Rattle.listing.specs.Lines.{newline, refusalLine, headerLine, retirementLine, totalLine};
+ghost use Rattle.listing.specs.Listing.{outcome, listTraceOf};
 ghost use Rattle.listing.specs.Inner.{linesOf};
-use image::IMAGE_LENGTH;
 use outcome::Refusal;
 use outcome::Verdict;
+use record::Read;
 use step::Event;
 use step::Oep060Timing;
-use trace::Read;
 
 // The longest trace that the tools take.
 const MOST_BYTES: usize = 65536;
 
 // Room for the longest text: 3,276 retirements of 20 bytes, a line of at most 20 characters each, the header and the total.
 pub const LISTING_ROOM: usize = 65600;
-
-// And the 1,288 bytes of an image, two digits each, in 41 lines.
-pub const REPLAY_ROOM: usize = 68224;
 
 // What listing a trace gives.
 pub struct Listed {
@@ -49,7 +44,7 @@ fn put_numbers(out: &mut [u8], at: usize, before: &[u8], a: u64, between: &[u8],
 }
 
 // `refused N at P`
-fn put_refusal(out: &mut [u8], at: usize, refusal: Refusal) -> usize
+pub fn put_refusal(out: &mut [u8], at: usize, refusal: Refusal) -> usize
     requires { ⌜ at + 53 ≤ length (now out) ⌝ }
     ensures { λ r. ⌜ written r (now (out .exit)) ≡ writtenOf (now (out .entry)) at (refusalLine refusal) ⌝ }
 {
@@ -81,7 +76,7 @@ fn put_lines(trace: &[u8], costs: &[u8], out: &mut [u8], start: usize) -> usize
     let mut at: usize = 0;
     let mut index: usize = 0;
     loop {
-        let read = trace::read_record(trace, at);
+        let read = record::read_record(trace, at);
         match read {
             Read::End => {
                 return place;
@@ -118,8 +113,8 @@ fn put_table(trace: &[u8], costs: &[u8], out: &mut [u8], count: usize, sum: u64)
     put_numbers(out, b, b"total ", count as u64, b" ", sum)
 }
 
-// Lists a trace into lent bytes that have room for any.
-fn list_into(trace: &[u8], out: &mut [u8], timing: Oep060Timing) -> Listed
+// Lists a trace into lent bytes that have room for any; the replay's have more.
+pub fn list_into(trace: &[u8], out: &mut [u8], timing: Oep060Timing) -> Listed
     requires { ⌜ 65600 ≤ length (now out) ⌝ }
     ensures { λ r. ⌜ outcome r (now (out .exit)) ≡ listTraceOf (now (trace .entry)) (now (out .entry)) timing ⌝ }
 {
@@ -157,91 +152,10 @@ fn list_into(trace: &[u8], out: &mut [u8], timing: Oep060Timing) -> Listed
     }
 }
 
-// A row of bytes in hexadecimal: `count` bytes from the place `from` on.
-fn put_row(out: &mut [u8], start: usize, bytes: &[u8], from: usize, count: usize) -> usize
-    requires { ⌜ from + count ≤ length (now bytes) ⌝ }
-    requires { ⌜ start + 2 * count + 1 ≤ length (now out) ⌝ }
-    ensures { λ r. ⌜ written r (now (out .exit)) ≡ writtenOf (now (out .entry)) start (hexBytesOf (take count (drop from (now (bytes .entry)))) ++ newline) ⌝ }
-{
-    let mut place = start;
-    let mut i: usize = 0;
-    while i < count {
-        place = text::put_hex2(out, place, bytes[from + i]);
-        i += 1;
-    }
-    text::put_bytes(out, place, b"\n")
-}
-
-// An image in rows of 32 bytes; the last has 8.
-fn put_rows(out: &mut [u8], start: usize, image: &[u8]) -> usize
-    requires { ⌜ length (now image) ≡ 1288 ⌝ }
-    requires { ⌜ start + 2617 ≤ length (now out) ⌝ }
-    ensures { λ r. ⌜ written r (now (out .exit)) ≡ writtenOf (now (out .entry)) start (hexRows 41 (now (image .entry))) ⌝ }
-{
-    let mut place = start;
-    let mut row: usize = 0;
-    while row < 40 {
-        place = put_row(out, place, image, 32 * row, 32);
-        row += 1;
-    }
-    put_row(out, place, image, 1280, 8)
-}
-
-// The replay's text from the state that was read.
-fn replay_from(trace: &[u8], out: &mut [u8], timing: Oep060Timing) -> usize
-    requires { ⌜ 68224 ≤ length (now out) ⌝ }
-    ensures { λ r. ⌜ written r (now (out .exit)) ≡ writtenOf (now (out .entry)) 0 (shown (judgedOf (now (trace .entry))) timing) ⌝ }
-{
-    let listed = list_into(trace, out, timing);
-    let verdict = listed.verdict;
-    let len = listed.len;
-    let next = listed.timing;
-    match verdict {
-        Verdict::Refused(_) => len,
-        Verdict::Accepted => {
-            let mut bytes = [0u8; 1288];
-            image::image_write(next, &mut bytes);
-            put_rows(out, len, &bytes)
-        }
-    }
-}
-
-// The image is judged first.
-fn replay_into(input: &[u8], out: &mut [u8]) -> usize
-    requires { ⌜ 68224 ≤ length (now out) ⌝ }
-    ensures { λ r. ⌜ written r (now (out .exit)) ≡ writtenOf (now (out .entry)) 0 (replayOf (now (input .entry))) ⌝ }
-{
-    let size = least(input.len(), IMAGE_LENGTH);
-    let read = image::image_read(&input[..size]);
-    let verdict = read.verdict;
-    let timing = read.timing;
-    match verdict {
-        Verdict::Refused(refusal) => {
-            let at = text::put_bytes(out, 0, b"image ");
-            put_refusal(out, at, refusal)
-        }
-        Verdict::Accepted => replay_from(&input[size..], out, timing),
-    }
-}
-
-fn least(a: usize, b: usize) -> usize
-    ensures { λ r. ⌜ r ≡ min a b ⌝ }
-{
-    if a < b { a } else { b }
-}
-
 // The cost lister's text: its length, and in the lent bytes the text itself; bytes beyond it stay.
 pub fn list_trace(trace: &[u8], text: &mut [u8; LISTING_ROOM], timing: Oep060Timing) -> Listed
     ensures { λ r. ⌜ outcome r (now (text .exit)) ≡ listTraceOf (now (trace .entry)) (now (text .entry)) timing ⌝ }
     ensures { λ r. ⌜ r .len ≤ length (now (text .exit)) ⌝ }
 {
     list_into(trace, text, timing)
-}
-
-// The replay's text: its length, and in the lent bytes the text itself; bytes beyond it stay.
-pub fn replay_text(input: &[u8], text: &mut [u8; REPLAY_ROOM]) -> usize
-    ensures { λ r. ⌜ written r (now (text .exit)) ≡ writtenOf (now (text .entry)) 0 (replayOf (now (input .entry))) ⌝ }
-    ensures { λ r. ⌜ r ≤ length (now (text .exit)) ⌝ }
-{
-    replay_into(input, text)
 }

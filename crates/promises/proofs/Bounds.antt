@@ -8,8 +8,9 @@ use native.Mathlib.Omega.{arith}
 use lib.ListN.{length}
 use Rattle.bits.specs.Words.{num}
 use Rattle.bits.proofs.Words.{num-small}
-use Rattle.pairing.specs.declared.Window.{Window}
-use Rattle.pairing.specs.Retiring.{Retiring, shut, seen}
+use Rattle.dispatch.specs.declared.Window.{Window}
+use Rattle.pairing.specs.Retiring.{Retiring}
+use Rattle.dispatch.specs.Windows.{shut, seen}
 use Rattle.pairing.specs.Cost.{costOf, windowOf}
 use Rattle.pairing.specs.Free.{sound}
 use Rattle.pairing.proofs.Zero.{zero-shuts}

@@ -12,7 +12,8 @@ use Rattle.masks.specs.Masks.{setsOf}
 use Rattle.branch_cache.specs.Cache.{freshOf}
 use Rattle.pairing.specs.Free.{sound}
 use Rattle.step.specs.Board.{CacheRule, Board}
-use Rattle.step.specs.Crate.{crateProfile, crateCache, crateBoard}
+use Rattle.profile.specs.Profile.{crateProfile}
+use Rattle.step.specs.Crate.{crateCache, crateBoard}
 use Rattle.promises.specs.Demand3.{Sound, Demand3}
 use Rattle.promises.proofs.Opcodes.{every-opcode}
 use Rattle.promises.proofs.Zero.{costs-zero, then-shut}

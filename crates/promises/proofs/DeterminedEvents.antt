@@ -3,7 +3,10 @@
 use mathlib.Core.Path.{sym, _∙_}
 use contract.Lifetimes
 use denote.Ref.{now}
-use Rattle.step.specs.Step.{steppedAt}
+use Rattle.step.specs.Crate.{cacheAt}
+use Rattle.step.specs.Step.{asked}
+use Rattle.in_place.specs.Lent.{lent}
+use Rattle.in_place.specs.Retire.{paid}
 use Rattle.promises.specs.Determined.{Determined, result}
 use Rattle.branch_cache.proofs.Slot.hit.Reads as branch-cache-slot-hit
 use Rattle.branch_cache.proofs.Slot.predict.Reads as branch-cache-slot-predict
@@ -14,15 +17,16 @@ use Rattle.branch_cache.proofs.BranchCache060.clear_all.Reads as branch-cache-b
 use Rattle.branch_cache.proofs.BranchCache060.clear_user.Reads as branch-cache-branchcache060-clear-user
 use Rattle.branch_cache.proofs.BranchCache060.predict.Reads as branch-cache-branchcache060-predict
 use Rattle.branch_cache.proofs.BranchCache060.update.Reads as branch-cache-branchcache060-update
-use Rattle.pairing.proofs.Window.shut.Reads as pairing-window-shut
-use Rattle.pairing.proofs.Window.seen.Reads as pairing-window-seen
-use Rattle.pairing.proofs.fallback_cycles.Reads as pairing-fallback-cycles
+use Rattle.dispatch.proofs.Window.shut.Reads as dispatch-window-shut
+use Rattle.dispatch.proofs.Window.seen.Reads as dispatch-window-seen
+use Rattle.raw.proofs.fallback_cycles.Reads as raw-fallback-cycles
 use Rattle.pairing.proofs.taken.Reads as pairing-taken
-use Rattle.pairing.proofs.soep_dispatch_test.Reads as pairing-soep-dispatch-test
+use Rattle.dispatch.proofs.memory.Reads as dispatch-memory
+use Rattle.dispatch.proofs.soep_dispatch_test.Reads as dispatch-soep-dispatch-test
 use Rattle.pairing.proofs.branch_cost_060.Reads as pairing-branch-cost-060
+use Rattle.pairing.proofs.charge_branch.Reads as pairing-charge-branch
+use Rattle.pairing.proofs.charge_other.Reads as pairing-charge-other
 use Rattle.pairing.proofs.retire.Reads as pairing-retire
-use Rattle.step.proofs.instruction_060.Reads as step-instruction-060
-use Rattle.step.proofs.turn.Reads as step-turn
 use Rattle.step.proofs.cycles_060.Reads as step-cycles-060
 use Rattle.step.proofs.Oep060Timing.fresh.Reads as step-oep060timing-fresh
 use Rattle.step.proofs.Oep060Timing.seen.Reads as step-oep060timing-seen
@@ -32,7 +36,13 @@ use Rattle.step.proofs.Oep060Timing.clear_user.Reads as step-oep060timing-clear
 use Rattle.outcome.proofs.number.Reads as outcome-number
 use Rattle.outcome.proofs.place.Reads as outcome-place
 use Rattle.outcome.proofs.refused.Reads as outcome-refused
-use Rattle.step.proofs.cycles_in_place.Reads as step-cycles-in-place
+use Rattle.step.proofs.ask_in_place.Reads as step-ask-in-place
+use Rattle.in_place.proofs.window_at.Reads as in-place-window-at
+use Rattle.in_place.proofs.put_window.Reads as in-place-put-window
+use Rattle.in_place.proofs.timing_at.Reads as in-place-timing-at
+use Rattle.in_place.proofs.retirement.Reads as in-place-retirement
+use Rattle.in_place.proofs.retire_at.Reads as in-place-retire-at
+use Rattle.in_place.proofs.retire_in_place.Reads as in-place-retire-in-place
 
 module _ (κs : Lifetimes.Lfts 0) where
   pub branch-cache-slot-hit-determined : Determined result (branch-cache-slot-hit.Post κs)
@@ -62,32 +72,35 @@ module _ (κs : Lifetimes.Lfts 0) where
   pub branch-cache-branchcache060-update-determined : Determined result (branch-cache-branchcache060-update.Post κs)
   branch-cache-branchcache060-update-determined i r r′ x x′ p q = p ∙ sym q
 
-  pub pairing-window-shut-determined : Determined result (pairing-window-shut.Post κs)
-  pairing-window-shut-determined i r r′ x x′ p q = p ∙ sym q
+  pub dispatch-window-shut-determined : Determined result (dispatch-window-shut.Post κs)
+  dispatch-window-shut-determined i r r′ x x′ p q = p ∙ sym q
 
-  pub pairing-window-seen-determined : Determined result (pairing-window-seen.Post κs)
-  pairing-window-seen-determined i r r′ x x′ p q = p ∙ sym q
+  pub dispatch-window-seen-determined : Determined result (dispatch-window-seen.Post κs)
+  dispatch-window-seen-determined i r r′ x x′ p q = p ∙ sym q
 
-  pub pairing-fallback-cycles-determined : Determined result (pairing-fallback-cycles.Post κs)
-  pairing-fallback-cycles-determined i r r′ x x′ p q = p ∙ sym q
+  pub raw-fallback-cycles-determined : Determined result (raw-fallback-cycles.Post κs)
+  raw-fallback-cycles-determined i r r′ x x′ p q = p ∙ sym q
 
   pub pairing-taken-determined : Determined result (pairing-taken.Post κs)
   pairing-taken-determined i r r′ x x′ p q = p ∙ sym q
 
-  pub pairing-soep-dispatch-test-determined : Determined result (pairing-soep-dispatch-test.Post κs)
-  pairing-soep-dispatch-test-determined i r r′ x x′ p q = p ∙ sym q
+  pub dispatch-memory-determined : Determined result (dispatch-memory.Post κs)
+  dispatch-memory-determined i r r′ x x′ p q = p ∙ sym q
+
+  pub dispatch-soep-dispatch-test-determined : Determined result (dispatch-soep-dispatch-test.Post κs)
+  dispatch-soep-dispatch-test-determined i r r′ x x′ p q = p ∙ sym q
 
   pub pairing-branch-cost-060-determined : Determined result (pairing-branch-cost-060.Post κs)
   pairing-branch-cost-060-determined i r r′ x x′ p q = p ∙ sym q
 
+  pub pairing-charge-branch-determined : Determined result (pairing-charge-branch.Post κs)
+  pairing-charge-branch-determined i r r′ x x′ p q = p ∙ sym q
+
+  pub pairing-charge-other-determined : Determined result (pairing-charge-other.Post κs)
+  pairing-charge-other-determined i r r′ x x′ p q = p ∙ sym q
+
   pub pairing-retire-determined : Determined result (pairing-retire.Post κs)
   pairing-retire-determined i r r′ x x′ p q = p ∙ sym q
-
-  pub step-instruction-060-determined : Determined result (step-instruction-060.Post κs)
-  step-instruction-060-determined i r r′ x x′ p q = p ∙ sym q
-
-  pub step-turn-determined : Determined result (step-turn.Post κs)
-  step-turn-determined i r r′ x x′ p q = p ∙ sym q
 
   pub step-cycles-060-determined : Determined result (step-cycles-060.Post κs)
   step-cycles-060-determined i r r′ x x′ p q = p ∙ sym q
@@ -116,7 +129,27 @@ module _ (κs : Lifetimes.Lfts 0) where
   pub outcome-refused-determined : Determined result (outcome-refused.Post κs)
   outcome-refused-determined i r r′ x x′ p q = p ∙ sym q
 
+  pub in-place-window-at-determined : Determined result (in-place-window-at.Post κs)
+  in-place-window-at-determined i r r′ x x′ p q = p ∙ sym q
+
+  pub in-place-timing-at-determined : Determined result (in-place-timing-at.Post κs)
+  in-place-timing-at-determined i r r′ x x′ p q = p ∙ sym q
+
+  pub in-place-retirement-determined : Determined result (in-place-retirement.Post κs)
+  in-place-retirement-determined i r r′ x x′ p q = p ∙ sym q
+
 -- the lent arrays too
+module _ (κs : Lifetimes.Lfts 1) where
+  pub in-place-put-window-determined : Determined (λ r x. now (x .0)) (in-place-put-window.Post κs)
+  in-place-put-window-determined i r r′ x x′ p q = p ∙ sym q
+
 module _ (κs : Lifetimes.Lfts 2) where
-  pub step-cycles-in-place-determined : Determined (λ r x. steppedAt (now (x .0)) (now (x .1 .0)) r) (step-cycles-in-place.Post κs)
-  step-cycles-in-place-determined i r r′ x x′ p q = p ∙ sym q
+  pub step-ask-in-place-determined : Determined (λ r x. asked r (cacheAt (now (x .0)) (now (x .1 .0)))) (step-ask-in-place.Post κs)
+  step-ask-in-place-determined i r r′ x x′ p q = p ∙ sym q
+
+module _ (κs : Lifetimes.Lfts 3) where
+  pub in-place-retire-at-determined : Determined (λ r x. paid r (lent (now (x .0)) (now (x .1 .0)) (now (x .1 .1 .0)))) (in-place-retire-at.Post κs)
+  in-place-retire-at-determined i r r′ x x′ p q = p ∙ sym q
+
+  pub in-place-retire-in-place-determined : Determined (λ r x. paid r (lent (now (x .0)) (now (x .1 .0)) (now (x .1 .1 .0)))) (in-place-retire-in-place.Post κs)
+  in-place-retire-in-place-determined i r r′ x x′ p q = p ∙ sym q

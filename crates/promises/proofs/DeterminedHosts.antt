@@ -4,8 +4,8 @@ use mathlib.Core.Path.{sym, _∙_}
 use mathlib.Core.List.{[]}
 use contract.Lifetimes
 use denote.Ref.{now}
-use Rattle.host.specs.Lent.{lent}
-use Rattle.host.specs.Events.{hostStepped}
+use Rattle.in_place.specs.Lent.{lent}
+use Rattle.in_place.specs.Retire.{paid}
 use Rattle.host.specs.Runs.{hostOutcome}
 use Rattle.host.specs.Images.{hostImage, hostState}
 use Rattle.promises.specs.Determined.{Determined, result}
@@ -43,7 +43,7 @@ module _ (κs : Lifetimes.Lfts 3) where
   pub fresh-determined : Determined (λ r x. lent (now (x .0)) (now (x .1 .0)) (now (x .1 .1 .0))) (fresh.Post κs)
   fresh-determined i r r′ x x′ p q = p ∙ sym q
 
-  pub retire-determined : Determined (λ r x. hostStepped r (lent (now (x .0)) (now (x .1 .0)) (now (x .1 .1 .0)))) (retire.Post κs)
+  pub retire-determined : Determined (λ r x. paid r (lent (now (x .0)) (now (x .1 .0)) (now (x .1 .1 .0)))) (retire.Post κs)
   retire-determined i r r′ x x′ p q = p ∙ sym q
 
 module _ (κs : Lifetimes.Lfts 4) where

@@ -13,7 +13,7 @@ use Rattle.little_endian.proofs.u32_at.Reads as u32-at
 use Rattle.little_endian.proofs.i32_of.Reads as i32-of
 use Rattle.little_endian.proofs.put_u16.Reads as put-u16
 use Rattle.little_endian.proofs.put_u32.Reads as put-u32
-use Rattle.trace.proofs.read_record.Reads as read-record
+use Rattle.record.proofs.read_record.Reads as read-record
 use Rattle.trace.proofs.run_trace.Reads as run-trace
 use Rattle.image.proofs.image_write.Reads as image-write
 use Rattle.image.proofs.image_read.Reads as image-read
@@ -21,8 +21,10 @@ use Rattle.text.proofs.put_bytes.Reads as put-bytes
 use Rattle.text.proofs.put_hex4.Reads as put-hex4
 use Rattle.text.proofs.put_hex2.Reads as put-hex2
 use Rattle.text.proofs.put_decimal.Reads as put-decimal
+use Rattle.listing.proofs.put_refusal.Reads as put-refusal
+use Rattle.listing.proofs.list_into.Reads as list-into
 use Rattle.listing.proofs.list_trace.Reads as list-trace
-use Rattle.listing.proofs.replay_text.Reads as replay-text
+use Rattle.replaying.proofs.replay_text.Reads as replay-text
 
 module _ (κs : Lifetimes.Lfts 0) where
   pub i32-of-determined : Determined result (i32-of.Post κs)
@@ -65,9 +67,15 @@ module _ (κs : Lifetimes.Lfts 1) where
   pub put-decimal-determined : Determined (λ r x. written r (now (x .0))) (put-decimal.Post κs)
   put-decimal-determined i r r′ x x′ p q = p ∙ sym q
 
+  pub put-refusal-determined : Determined (λ r x. written r (now (x .0))) (put-refusal.Post κs)
+  put-refusal-determined i r r′ x x′ p q = p ∙ sym q
+
 module _ (κs : Lifetimes.Lfts 2) where
   pub put-bytes-determined : Determined (λ r x. written r (now (x .0))) (put-bytes.Post κs)
   put-bytes-determined i r r′ x x′ p q = p ∙ sym q
+
+  pub list-into-determined : Determined (λ r x. listing.outcome r (now (x .1 .0))) (list-into.Post κs)
+  list-into-determined i r r′ x x′ p q = p ∙ sym q
 
   pub list-trace-determined : Determined (λ r x. listing.outcome r (now (x .1 .0))) (list-trace.Post κs)
   list-trace-determined i r r′ x x′ p q = p .0 ∙ sym (q .0)

@@ -18,6 +18,10 @@ use Rattle.class_word.proofs.Info060.new.Reads as class-word-info060-new
 use Rattle.class_word.proofs.Info060.class.Reads as class-word-info060-class
 use Rattle.class_word.proofs.Info060.cycles.Reads as class-word-info060-cycles
 use Rattle.class_word.proofs.Info060.has.Reads as class-word-info060-has
+use Rattle.operand.proofs.flags_of.Reads as operand-flags-of
+use Rattle.operand.proofs.destination_flags.Reads as operand-destination-flags
+use Rattle.operand.proofs.alu_of.Reads as operand-alu-of
+use Rattle.operand.proofs.unclassified.Reads as operand-unclassified
 use Rattle.classifier.proofs.classify_060_opcode.Reads as classifier-classify-060-opcode
 use Rattle.classifier.proofs.info_060.Reads as classifier-info-060
 use Rattle.masks.proofs.reg_masks_060.Reads as masks-reg-masks-060
@@ -63,6 +67,18 @@ module _ (κs : Lifetimes.Lfts 0) where
 
   pub class-word-info060-has-determined : Determined result (class-word-info060-has.Post κs)
   class-word-info060-has-determined i r r′ x x′ p q = p ∙ sym q
+
+  pub operand-flags-of-determined : Determined result (operand-flags-of.Post κs)
+  operand-flags-of-determined i r r′ x x′ p q = p ∙ sym q
+
+  pub operand-destination-flags-determined : Determined result (operand-destination-flags.Post κs)
+  operand-destination-flags-determined i r r′ x x′ p q = p ∙ sym q
+
+  pub operand-alu-of-determined : Determined result (operand-alu-of.Post κs)
+  operand-alu-of-determined i r r′ x x′ p q = p ∙ sym q
+
+  pub operand-unclassified-determined : Determined result (operand-unclassified.Post κs)
+  operand-unclassified-determined i r r′ x x′ p q = p ∙ sym q
 
   pub classifier-classify-060-opcode-determined : Determined result (classifier-classify-060-opcode.Post κs)
   classifier-classify-060-opcode-determined i r r′ x x′ p q = p ∙ sym q

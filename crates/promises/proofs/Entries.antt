@@ -15,7 +15,7 @@ use Rattle.bits.proofs.Rows.{first-has}
 use Rattle.bits.proofs.Words.{num-small, num-is, meets-bit}
 use Rattle.class_word.specs.Word.{classNumber, wordOf, classOf, clocksOf, has, BRANCH, VARIABLE, «EA_INDEXED»}
 use Rattle.class_word.proofs.Words.{class-small, word-class, word-clocks}
-use Rattle.classifier.specs.Entry.{Entry, accessFlags, entryWord}
+use Rattle.operand.specs.Entry.{Entry, accessFlags, entryWord}
 use Rattle.classifier.specs.Classify.{group0, move, group4, group5, group6, group7, group8, addSub, group11, group12, group14, groups, entryOf}
 
 abbrev pub inClass : ℕ → Entry → Bool

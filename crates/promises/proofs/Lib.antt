@@ -13,3 +13,4 @@ pub mod Traces
 pub mod DeterminedRuns
 pub mod Batches
 pub mod DeterminedHosts
+pub mod DeterminedGroups

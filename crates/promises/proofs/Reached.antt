@@ -8,12 +8,13 @@ use native.Mathlib.Omega.{arith}
 use lib.ListN.{length}
 use lib.IntN.{pos}
 use Rattle.class_word.specs.Word.{info}
-use Rattle.pairing.specs.declared.Instruction.{Instruction}
-use Rattle.pairing.specs.declared.Controls.{Controls}
-use Rattle.pairing.specs.declared.Window.{Window}
+use Rattle.dispatch.specs.declared.Instruction.{Instruction}
+use Rattle.dispatch.specs.declared.Controls.{Controls}
+use Rattle.dispatch.specs.declared.Window.{Window}
 use Rattle.pairing.specs.declared.Answer.{Answer}
-use Rattle.pairing.specs.Retiring.{Retiring, shut, takenOf, kindOf}
-use Rattle.pairing.specs.Dispatch.{failing, firstFailing, holds, isSimple}
+use Rattle.pairing.specs.Retiring.{Retiring, takenOf, kindOf}
+use Rattle.dispatch.specs.Windows.{shut}
+use Rattle.dispatch.specs.Dispatch.{failing, firstFailing, holds, isSimple}
 use Rattle.pairing.specs.Cost.{costOf, windowOf, pairs, headOf, plainOf, baseOf}
 use Rattle.step.specs.declared.Retirement.{Retirement}
 use Rattle.step.specs.declared.Event.{Event}

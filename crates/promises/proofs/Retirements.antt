@@ -7,9 +7,9 @@ use contract.Lifetimes
 use Rattle.class_word.specs.declared.Clocks.{Clocks}
 use Rattle.class_word.specs.Word.{clocks}
 use Rattle.branch_cache.proofs.Laws.{cache-miss-keeps}
-use Rattle.pairing.specs.Retiring.{shut}
+use Rattle.dispatch.specs.Windows.{shut}
 use Rattle.pairing.specs.Cost.{costOf}
-use Rattle.pairing.proofs.Rules.{passes-simple}
+use Rattle.dispatch.proofs.Rules.{passes-simple}
 use Rattle.pairing.proofs.Zero.{pair-cost, pair-costs-nothing}
 use Rattle.step.specs.declared.Oep060Timing.{Oep060Timing}
 use Rattle.step.specs.declared.Stepped.{Stepped}

@@ -2,7 +2,7 @@
 -- Assumes nothing.
 use mathlib.Core.Path.{refl}
 use Rattle.bits.specs.Pattern.{matches}
-use Rattle.classifier.specs.Entry.{ea}
+use Rattle.operand.specs.Entry.{ea}
 use Rattle.classifier.specs.Classify.{classifyOf, group0, move, group4, group5, group6, group7, group8, addSub, group11, group12, group14}
 use Rattle.masks.specs.Registers.{maskOfRegs}
 use Rattle.masks.specs.Masks.{setsOf, operandSets, registerOperand, dyadicSets, shiftSets, group4Sets}

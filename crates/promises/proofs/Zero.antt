@@ -8,7 +8,8 @@ use Rattle.class_word.specs.Word.{has, BRANCH}
 use Rattle.branch_cache.specs.declared.Predicted.{Predicted}
 use Rattle.branch_cache.specs.declared.Predicted.the-variants as P
 use Rattle.pairing.specs.declared.Answer.the-variants.{NotConsulted}
-use Rattle.pairing.specs.Retiring.{shut, takenOf, predictsTaken}
+use Rattle.pairing.specs.Retiring.{takenOf, predictsTaken}
+use Rattle.dispatch.specs.Windows.{shut}
 use Rattle.pairing.specs.Cost.{costOf}
 use Rattle.pairing.specs.Free.{free}
 use Rattle.pairing.proofs.Zero.{zero-exactly, zero-shuts}

@@ -17,8 +17,9 @@ use lib.ListN.{length}
 use Rattle.class_word.specs.Word.{has, BRANCH}
 use Rattle.branch_cache.specs.declared.Predicted.{Predicted}
 use Rattle.branch_cache.specs.declared.Predicted.the-variants.{Miss, NotTaken, Taken}
-use Rattle.pairing.specs.Retiring.{shut, takenOf}
-use Rattle.pairing.specs.Dispatch.{passes}
+use Rattle.pairing.specs.Retiring.{takenOf}
+use Rattle.dispatch.specs.Windows.{shut}
+use Rattle.dispatch.specs.Dispatch.{passes}
 use Rattle.pairing.specs.Cost.{costOf}
 use Rattle.pairing.specs.Free.{sound}
 use Rattle.step.specs.declared.Retirement.{Retirement}

@@ -7,11 +7,12 @@ use mathlib.Core.Path.{_≡_}
 use mathlib.Core.Bool.{Bool, true, false}
 use Rattle.class_word.specs.Word.{has, classOf, clocks, BRANCH, VARIABLE, UNCLASSIFIED, «EA_INDEXED»}
 use Rattle.branch_cache.specs.Cache.{slotAt, slotOf, hitOf, cacheUpdateOf, clearAllOf, clearUserOf}
-use Rattle.pairing.specs.declared.Instruction.{Instruction}
-use Rattle.pairing.specs.declared.Controls.{Controls}
-use Rattle.pairing.specs.declared.Window.{Window}
-use Rattle.pairing.specs.Retiring.{Retiring, shut, seen}
-use Rattle.pairing.specs.Dispatch.{passes}
+use Rattle.dispatch.specs.declared.Instruction.{Instruction}
+use Rattle.dispatch.specs.declared.Controls.{Controls}
+use Rattle.dispatch.specs.declared.Window.{Window}
+use Rattle.pairing.specs.Retiring.{Retiring}
+use Rattle.dispatch.specs.Windows.{shut, seen}
+use Rattle.dispatch.specs.Dispatch.{passes}
 use Rattle.pairing.specs.Cost.{costOf, baseOf}
 use Rattle.branch_cache.specs.declared.BranchCache060.{BranchCache060}
 use Rattle.step.specs.declared.Oep060Timing.{Oep060Timing}

@@ -2,7 +2,7 @@
 use input::Input;
 use libc::STDERR_FILENO;
 use libc::STDOUT_FILENO;
-use listing::REPLAY_ROOM;
+use replaying::REPLAY_ROOM;
 
 fn main() {
     // An image, the longest trace, and one byte more, so that longer input is seen to be longer.
@@ -14,7 +14,7 @@ fn main() {
         }
         Input::Taken(n) => {
             let mut text = [0u8; REPLAY_ROOM];
-            let len = listing::replay_text(&bytes[..n], &mut text);
+            let len = replaying::replay_text(&bytes[..n], &mut text);
             io::write_all(STDOUT_FILENO, &text[..len]);
         }
     }

@@ -9,9 +9,9 @@ use Rattle.step.specs.declared.Event.{Event}
 use Rattle.step.specs.Events.{total}
 use Rattle.trace.specs.Trace.{countOf}
 use Rattle.trace.specs.Table.{Reached, start, past, Accepts}
-use Rattle.trace.proofs.Reading.{got-within}
+use Rattle.trace.proofs.Walking.{got-within}
 use Rattle.trace.proofs.Counting.{count-one}
-use Rattle.trace.proofs.Records.{whole-then}
+use Rattle.record.proofs.Records.{whole-then}
 use Rattle.trace.proofs.Parts.{count-append}
 
 -- a retirement takes 20 bytes

@@ -8,10 +8,10 @@ use native.Mathlib.Omega.{arith}
 use Rattle.step.specs.declared.Event.{Event}
 use Rattle.step.specs.declared.Event.the-variants.{Retired, Broken, ClearedAll, ClearedUser}
 use Rattle.outcome.specs.declared.Refusal.{Refusal}
-use Rattle.trace.specs.declared.Read.the-variants.{Got, Bad, End}
+use Rattle.record.specs.declared.Read.the-variants.{Got, Bad, End}
 use Rattle.trace.specs.declared.Checked.{Checked}
 use Rattle.trace.specs.declared.Checked.the-variants.{Sound, Unsound}
-use Rattle.trace.specs.Record.{readAt}
+use Rattle.record.specs.Record.{readAt}
 use Rattle.trace.specs.Trace.{Trace, events, refused, ahead, readFrom, countOf, checkedOf}
 use Rattle.trace.proofs.Walking.{from-end, from-bad, from-got}
 

@@ -15,12 +15,11 @@ use Rattle.step.specs.declared.Oep060Timing.{Oep060Timing}
 use Rattle.step.specs.declared.Stepped.{Stepped}
 use Rattle.step.specs.Step.{steppedOf, afterOf, seenOf}
 use Rattle.outcome.specs.declared.Refusal.{Refusal}
-use Rattle.trace.specs.declared.Read.the-variants.{Got, Bad, End}
-use Rattle.trace.specs.Record.{readAt}
+use Rattle.record.specs.declared.Read.the-variants.{Got, Bad, End}
+use Rattle.record.specs.Record.{readAt}
 use Rattle.trace.specs.Trace.{ahead, readFrom, countOf}
 use Rattle.trace.specs.Run.{outcome, outcomeOf, Fits}
-use Rattle.trace.proofs.Reading.{got-within}
-use Rattle.trace.proofs.Walking.{from-end, from-bad, from-got}
+use Rattle.trace.proofs.Walking.{got-within, from-end, from-bad, from-got}
 use Rattle.trace.proofs.Running.{ranAt, outcomeFrom, run-none, run-end, run-cost, run-quiet, fits-ahead, fits-room}
 
 pub record Going (trace lent₀ : List ℕ) (t₀ : Oep060Timing) (lent : List ℕ) (at k sum : ℕ) (t : Oep060Timing) : Type 0 where

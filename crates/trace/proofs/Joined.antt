@@ -1,77 +1,21 @@
 -- The records of two traces, one behind the other: their events are those of the first and then those of the second.
 -- Assumes nothing.
-use Prim.Native.Nat.{ℕ, zero, suc, _+_, _*_, _≤_}
-use mathlib.Core.Path.{_≡_, refl, sym, ap, ap₂, subst, _∙_}
+use Prim.Native.Nat.{ℕ, _+_}
 use mathlib.Core.List.{List, _++_, append-assoc, append-nil}
-use native.Mathlib.Nat.{zero-add, add-zero}
-use native.Mathlib.Omega.{arith}
-use lib.Dec.{ltb}
-use lib.ListN.{length, length-append, List·getD-append}
-use Rattle.little_endian.specs.Numbers.{numberAt}
-use Rattle.little_endian.proofs.Numbers.{number-behind}
+use native.Mathlib.Nat.{add-zero}
+use lib.ListN.{length, length-append}
 use Rattle.step.specs.declared.Event.{Event}
-use Rattle.step.specs.declared.Event.the-variants.{Retired}
-use Rattle.trace.specs.declared.Kind.{Kind}
-use Rattle.trace.specs.declared.Kind.the-variants.{Retirement, Break, ClearAll, ClearUser}
-use Rattle.trace.specs.Kinds.{payloadLength}
-use Rattle.trace.specs.Record.{remaining, nextPlace, retirementAt, eventAt, highFlag}
-use Rattle.trace.specs.Table.{Whole, whole, Reached, start, past}
-
-number-front : (width : ℕ) (a b : List ℕ) (at : ℕ) → at + width ≤ length a → numberAt width (a ++ b) at ≡ numberAt width a at
-unfolding numberAt
-number-front zero a b at h = refl
-number-front (suc width) a b at h =
-    ap₂ (λ (x y : ℕ). x + 256 * y) (List·getD-append a b 0 at (omega arith)) (number-front width a b (at + 1) (omega arith))
-
--- a record that stands d places further on in other, with the same bytes, is the same record
-module _ (trace other : List ℕ) (d at : ℕ) {up : ℕ} (moved : up ≡ d + at) (longer : remaining trace at ≤ remaining other up)
-    (same : (width n : ℕ) → at + n + width ≤ length trace → numberAt width other (up + n) ≡ numberAt width trace (at + n)) where
-  retirement-alike : 20 ≤ remaining trace at → retirementAt other up ≡ retirementAt trace at
-  unfolding retirementAt
-  retirement-alike h = rw (same 2 4 (omega arith), same 2 6 (omega arith), same 4 8 (omega arith), same 4 12 (omega arith), same 4 16 (omega arith))
-
-  event-alike : (kind : Kind) → 4 + payloadLength kind ≤ remaining trace at → eventAt other up kind ≡ eventAt trace at kind
-  event-alike Retirement h = ap Retired (retirement-alike h)
-  event-alike Break h = refl
-  event-alike ClearAll h = refl
-  event-alike ClearUser h = refl
-
-  flag-alike : (kind : Kind) → 4 + payloadLength kind ≤ remaining trace at → highFlag other up kind ≡ highFlag trace at kind
-  flag-alike Retirement h = ap (ltb 31) (same 2 6 (omega arith))
-  flag-alike Break h = refl
-  flag-alike ClearAll h = refl
-  flag-alike ClearUser h = refl
-
-  whole-alike : {e : Event} {next : ℕ} → Whole trace at e next → Whole other up e (d + next)
-  whole-alike (whole kind h e w f) =
-      let four = h .0 in
-      let long : numberAt 2 other up ≡ numberAt 2 trace at = simp add-zero at (same 2 0 (omega arith)) in
-      let n : nextPlace up kind ≡ d + nextPlace at kind = omega arith in
-      subst (λ (x : Event). Whole other up x (d + nextPlace at kind)) (event-alike kind w)
-      (subst (Whole other up (eventAt other up kind)) n
-      (whole kind (omega arith, same 2 2 (omega arith) ∙ h .1) (long ∙ e) (omega arith) (flag-alike kind w ∙ f)))
+use Rattle.record.proofs.Alike.{whole-front, whole-behind}
+use Rattle.trace.specs.Table.{Reached, start, past}
 
 module _ (a b : List ℕ) where
-  whole-front : {at next : ℕ} {e : Event} → Whole a at e next → Whole (a ++ b) at e next
-  whole-front {at} {next} {e} w =
-      rw zero-add at
-      (whole-alike a (a ++ b) 0 at (sym (zero-add at)) (omega (arith, length-append a b))
-      (λ width n h. number-front width a b (at + n) (omega arith)) w)
-
-  whole-behind : {at next : ℕ} {e : Event} → Whole b at e next → Whole (a ++ b) (length a + at) e (length a + next)
-  whole-behind {at} w =
-      whole-alike b (a ++ b) (length a) at refl (omega (arith, length-append a b))
-      (λ width n h.
-      let m : length a + at + n ≡ length a + (at + n) = omega arith in
-      ap (numberAt width (a ++ b)) m ∙ number-behind width a b (at + n)) w
-
   reached-front : {at : ℕ} {es : List Event} → Reached a at es → Reached (a ++ b) at es
   reached-front start = start
-  reached-front (past h w) = past (reached-front h) (whole-front w)
+  reached-front (past h w) = past (reached-front h) (whole-front a b w)
 
   reached-behind : {at : ℕ} {es fs : List Event} → Reached (a ++ b) (length a) es → Reached b at fs → Reached (a ++ b) (length a + at) (es ++ fs)
   reached-behind h start = rw (add-zero, append-nil) h
-  reached-behind h (past g w) = rw append-assoc at (past (reached-behind h g) (whole-behind w))
+  reached-behind h (past g w) = rw append-assoc at (past (reached-behind h g) (whole-behind a b w))
 
   pub reached-joined : {es fs : List Event} → Reached a (length a) es → Reached b (length b) fs → Reached (a ++ b) (length (a ++ b)) (es ++ fs)
   reached-joined h g = rw length-append (reached-behind (reached-front h) g)

@@ -1,12 +1,8 @@
-pub mod Choices
-pub mod KindNumbers
-pub mod Reading
 pub mod Walking
 pub mod Counting
 pub mod Running
 pub mod Going
 pub mod Judging
-pub mod Records
 pub mod Refused
 pub mod Seen
 pub mod Joined

@@ -12,16 +12,17 @@ use Rattle.step.specs.declared.Oep060Timing.{Oep060Timing}
 use Rattle.outcome.specs.declared.Refusal.{Refusal}
 use Rattle.outcome.specs.declared.Verdict.the-variants.{Refused}
 use Rattle.outcome.specs.Runs.{refusedOf}
-use Rattle.trace.specs.declared.Read.{Read}
-use Rattle.trace.specs.declared.Read.the-variants.{Got, Bad, End}
-use Rattle.trace.specs.Record.{remaining, readAt}
+use Rattle.record.specs.declared.Read.{Read}
+use Rattle.record.specs.declared.Read.the-variants.{Got, Bad, End}
+use Rattle.record.specs.Record.{remaining, readAt}
 use Rattle.trace.specs.Trace.{Trace, events, refused, ahead, readFrom, readTrace, countOf}
 use Rattle.trace.specs.Run.{outcome, acceptedOf, outcomeOf, withRoom, judged, runTraceOf}
-use Rattle.trace.specs.Table.{Faulty, Reached, start, past, Refuses, row1, rows2to6, row7, Accepts}
-use Rattle.trace.proofs.Choices.{by-test}
-use Rattle.trace.proofs.Reading.{read-end, got-within}
-use Rattle.trace.proofs.Walking.{from-end, from-bad, from-got}
-use Rattle.trace.proofs.Records.{faulty-then, whole-then, faulty-only, whole-only, read-explained, Explained}
+use Rattle.record.specs.Table.{Faulty}
+use Rattle.trace.specs.Table.{Reached, start, past, Refuses, row1, rows2to6, row7, Accepts}
+use Rattle.record.proofs.Choices.{by-test}
+use Rattle.record.proofs.Reading.{read-end}
+use Rattle.trace.proofs.Walking.{got-within, from-end, from-bad, from-got}
+use Rattle.record.proofs.Records.{faulty-then, whole-then, faulty-only, whole-only, read-explained, Explained}
 
 -- events in front of what follows them
 abbrev before : List Event → Trace → Trace

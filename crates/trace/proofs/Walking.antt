@@ -1,17 +1,26 @@
 -- What a trace says from a place on is what stands there, and then what it says from the next place on: the bound on the records vanishes.
 -- Assumes nothing.
-use Prim.Native.Nat.{ℕ, zero, suc, _+_, _≤_}
+use Prim.Native.Nat.{ℕ, zero, suc, _+_, _*_, _≤_}
 use mathlib.Core.Path.{_≡_, refl, sym, ap, _∙_}
-use mathlib.Core.List.{List, []}
+use mathlib.Core.List.{List, [], _∷_}
 use native.Mathlib.Omega.{arith}
 use lib.ListN.{length}
 use Rattle.step.specs.declared.Event.{Event}
+use Rattle.step.specs.declared.Event.the-variants.{Retired, Broken, ClearedAll, ClearedUser}
 use Rattle.outcome.specs.declared.Refusal.{Refusal}
-use Rattle.trace.specs.declared.Read.{Read}
-use Rattle.trace.specs.declared.Read.the-variants.{Got, Bad, End}
-use Rattle.trace.specs.Record.{remaining, readAt}
-use Rattle.trace.specs.Trace.{Trace, events, refused, ahead, goOn, readIn, readFrom}
-use Rattle.trace.proofs.Reading.{read-end, got-within}
+use Rattle.record.specs.declared.Read.{Read}
+use Rattle.record.specs.declared.Read.the-variants.{Got, Bad, End}
+use Rattle.record.specs.Record.{remaining, readAt}
+use Rattle.trace.specs.Trace.{Trace, events, refused, ahead, goOn, readIn, readFrom, countOf}
+use Rattle.record.proofs.Reading.{read-end, got-ends}
+
+-- a record that was read takes 4 bytes, and 16 more if it is a retirement, and ends within the trace
+pub got-within : (trace : List ℕ) (at : ℕ) (e : Event) (next : ℕ) → readAt trace at ≡ Got e next
+    → (at + 4 + 16 * countOf (e ∷ []) ≤ next) × (next ≤ length trace)
+got-within trace at (Retired r) next q = got-ends trace at (Retired r) next q
+got-within trace at Broken next q = got-ends trace at Broken next q
+got-within trace at ClearedAll next q = got-ends trace at ClearedAll next q
+got-within trace at ClearedUser next q = got-ends trace at ClearedUser next q
 
 -- what goes on alike from every later place is alike
 alike : (trace : List ℕ) (at : ℕ) (f g : ℕ → Trace) → ((next : ℕ) → at + 4 ≤ next → f next ≡ g next) → (r : Read) → readAt trace at ≡ r

@@ -13,11 +13,11 @@ use mathlib.Core.List.{List, [], _∷_}
 use Rattle.step.specs.declared.Event.{Event}
 use Rattle.step.specs.declared.Event.the-variants.{Retired, Broken, ClearedAll, ClearedUser}
 use Rattle.outcome.specs.declared.Refusal.{Refusal}
-use Rattle.trace.specs.declared.Read.{Read}
-use Rattle.trace.specs.declared.Read.the-variants.{Got, Bad, End}
+use Rattle.record.specs.declared.Read.{Read}
+use Rattle.record.specs.declared.Read.the-variants.{Got, Bad, End}
 use Rattle.trace.specs.declared.Checked.{Checked}
 use Rattle.trace.specs.declared.Checked.the-variants.{Sound, Unsound}
-use Rattle.trace.specs.Record.{remaining, readAt}
+use Rattle.record.specs.Record.{remaining, readAt}
 
 pub data Trace : Type 0 where
   events : List Event → Trace

@@ -1,7 +1,7 @@
 // Document 01's worked instructions that are run: the fallback of seven raw counts, and RTS that flowed at raw 20 and 24.
+use dispatch::Controls;
 use libc::STDOUT_FILENO;
-use pairing::Controls;
-use pairing::RawCount;
+use raw::RawCount;
 use step::Oep060Timing;
 use step::Retirement;
 
@@ -13,7 +13,7 @@ fn show(asked: &[u8], clocks: u32) {
 }
 
 fn fallback(asked: &[u8], raw: i32) {
-    show(asked, pairing::fallback_cycles(RawCount(raw)).0);
+    show(asked, raw::fallback_cycles(RawCount(raw)).0);
 }
 
 // One retirement of RTS that flowed, from a fresh state, its fetch not cached.

@@ -5,7 +5,7 @@ use mathlib.Core.List.{List}
 use Prim.Native.Nat.{ℕ}
 use native.Mathlib.Omega.{arith}
 use lib.ListN.{length, set, length-set}
-use Rattle.pairing.specs.declared.Window.{Window}
+use Rattle.dispatch.specs.declared.Window.{Window}
 use Rattle.image.proofs.Writing.{window-length, window-put}
 use borrow.Author.Needs.{needs}
 use Rattle.image.proofs.put_window.Statement.{statement}

@@ -6,7 +6,7 @@ use native.Mathlib.Omega.{arith}
 use borrow.Author.Needs.{needs}
 use lib.ListN.{length}
 use Rattle.trace.specs.Trace.{readFrom, checkedOf}
-use Rattle.trace.proofs.Reading.{got-within}
+use Rattle.trace.proofs.Walking.{got-within}
 use Rattle.trace.proofs.Counting.{count-one, countedFrom, counted-none, count-end, count-bad, count-got}
 use Rattle.trace.proofs.check_all.Statement.{statement}
 use Rattle.trace.proofs.check_all.Tie as tie
@@ -32,16 +32,16 @@ returns c =
     let a = c .before .before in
     count-end _ _ _ (a .before .loop .inv .2) (sym (a .read-record .ensures) ∙ c .enum-told .given .1)
 
-enum-known-record : tie.Need-enum-known-record Inv-loop μ-loop
-enum-known-record c = search needs
+enum-known-found : tie.Need-enum-known-found Inv-loop μ-loop
+enum-known-found c = search needs
 
 returns-2 : tie.Need-returns-2 Inv-loop μ-loop
 returns-2 c =
     let a = c .before .before .before in
-    count-bad _ _ _ (a .before .loop .inv .2) _ (sym (a .read-record .ensures) ∙ c .before .record .given .1)
+    count-bad _ _ _ (a .before .loop .inv .2) _ (sym (a .read-record .ensures) ∙ c .before .found .given .1)
 
-enum-known-record-2 : tie.Need-enum-known-record-2 Inv-loop μ-loop
-enum-known-record-2 c = search needs
+enum-known-found-2 : tie.Need-enum-known-found-2 Inv-loop μ-loop
+enum-known-found-2 c = search needs
 
 counted-requires : tie.Need-counted-requires Inv-loop μ-loop
 counted-requires c κs = search needs
@@ -49,23 +49,23 @@ counted-requires c κs = search needs
 add-count : tie.Need-add-count Inv-loop μ-loop
 add-count c =
     let r = c .before .before in
-    let w = got-within _ _ _ _ (sym (r .before .before .read-record .ensures) ∙ r .record2 .given .1) in
-    let o = count-one (r .record2 .given .0 .0) in
+    let w = got-within _ _ _ _ (sym (r .before .before .read-record .ensures) ∙ r .found2 .given .1) in
+    let o = count-one (r .found2 .given .0 .0) in
     omega (arith, c .counted .ensures)
 
 loop-less : tie.Need-loop-less Inv-loop μ-loop
 loop-less c =
     let r = c .before .before in
-    let w = got-within _ _ _ _ (sym (r .before .before .read-record .ensures) ∙ r .record2 .given .1) in
+    let w = got-within _ _ _ _ (sym (r .before .before .read-record .ensures) ∙ r .found2 .given .1) in
     omega arith
 
 loop-again : tie.Need-loop-again Inv-loop μ-loop
 loop-again c =
     let r = c .before .before in
     let a = r .before .before in
-    let q = sym (a .read-record .ensures) ∙ r .record2 .given .1 in
+    let q = sym (a .read-record .ensures) ∙ r .found2 .given .1 in
     let w = got-within _ _ _ _ q in
-    (omega arith, omega (arith, count-one (r .record2 .given .0 .0), c .counted .ensures), rw (c .counted .ensures) (count-got _ _ _ (a .before .loop .inv .2) _ _ q))
+    (omega arith, omega (arith, count-one (r .found2 .given .0 .0), c .counted .ensures), rw (c .counted .ensures) (count-got _ _ _ (a .before .loop .inv .2) _ _ q))
 
 pub check-all-spec : {M : Type 1} → statement M
 check-all-spec =
@@ -77,9 +77,9 @@ check-all-spec =
     read-record-requires
     enum-told
     returns
-    enum-known-record
+    enum-known-found
     returns-2
-    enum-known-record-2
+    enum-known-found-2
     counted-requires
     add-count
     loop-less

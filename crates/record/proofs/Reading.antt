@@ -1,0 +1,95 @@
+-- What stands at a place of a trace, by what holds of the bytes there; and a record that was read ends within the trace.
+-- Assumes nothing.
+use Prim.Native.Nat.{ℕ, _+_, _≤_, _<_}
+use mathlib.Core.Path.{_≡_, ap, subst, _∙_}
+use mathlib.Core.Bool.{true, false, not}
+use mathlib.Core.List.{List}
+use native.Mathlib.Omega.{arith}
+use lib.Dec.{eqb, ltb}
+use lib.ListN.{length}
+use borrow.Author.Tests.{lt-ltb, le-ltb, eq-eqb, ne-eqb, ltb-false}
+use Rattle.step.specs.declared.Event.{Event}
+use Rattle.step.specs.declared.Event.the-variants.{Retired, Broken, ClearedAll, ClearedUser}
+use Rattle.outcome.specs.declared.Refusal.the-variants.{Remainder, Length, Cut, Flag}
+use Rattle.record.specs.declared.Kind.{Kind}
+use Rattle.record.specs.declared.Kind.the-variants.{Retirement, Break, ClearAll, ClearUser}
+use Rattle.record.specs.declared.KindRead.{KindRead}
+use Rattle.record.specs.declared.KindRead.the-variants.{Known, Unknown}
+use Rattle.record.specs.declared.Read.{Read}
+use Rattle.record.specs.declared.Read.the-variants.{Got, Bad, End}
+use Rattle.record.specs.Kinds.{kindNumber, payloadLength, kindOf}
+use Rattle.record.specs.Record.{remaining, lengthAt, kindAt, nextPlace, eventAt, highFlag, recordAt, bodyAt, readAt}
+use Rattle.record.proofs.Choices.{by-test}
+use Rattle.record.proofs.KindNumbers.{kind-found}
+
+-- how many bytes the payload has that an event stands in
+abbrev pub payloadOf : Event → ℕ
+payloadOf (Retired r) = 16
+payloadOf Broken = 0
+payloadOf ClearedAll = 0
+payloadOf ClearedUser = 0
+
+module _ (trace : List ℕ) (at : ℕ) where
+  pub read-end : length trace ≤ at → readAt trace at ≡ End
+  unfolding readAt
+  read-end h = simp (eq-eqb (remaining trace at) 0 (omega arith))
+
+  pub read-remainder : 1 ≤ remaining trace at → remaining trace at ≤ 3 → readAt trace at ≡ Bad (Remainder at)
+  unfolding readAt
+  read-remainder a b = simp (ne-eqb (remaining trace at) 0 (λ e. omega arith), lt-ltb (remaining trace at) 4 (omega arith))
+
+  -- past the head
+  pub read-body : 4 ≤ remaining trace at → readAt trace at ≡ bodyAt trace at (kindOf (kindAt trace at))
+  unfolding readAt
+  read-body h = simp (ne-eqb (remaining trace at) 0 (λ e. omega arith), le-ltb (remaining trace at) 4 h)
+
+  pub read-kind : (kind : Kind) → 4 ≤ remaining trace at → kindAt trace at ≡ kindNumber kind → readAt trace at ≡ recordAt trace at kind
+  read-kind kind h e = read-body h ∙ ap (bodyAt trace at) (kind-found kind e)
+
+  module _ (kind : Kind) where
+    pub record-length : (lengthAt trace at ≡ payloadLength kind → ⊥) → recordAt trace at kind ≡ Bad (Length at)
+    unfolding recordAt
+    record-length n = simp (ne-eqb _ _ n)
+
+    module _ (right : lengthAt trace at ≡ payloadLength kind) where
+      pub record-cut : length trace < nextPlace at kind → recordAt trace at kind ≡ Bad (Cut at)
+      unfolding recordAt
+      record-cut h = simp (eq-eqb _ _ right, lt-ltb _ _ h)
+
+      module _ (whole : nextPlace at kind ≤ length trace) where
+        pub record-flag : highFlag trace at kind ≡ true → recordAt trace at kind ≡ Bad (Flag at)
+        unfolding recordAt
+        record-flag h = simp (eq-eqb _ _ right, le-ltb _ _ whole, h)
+
+        pub record-whole : highFlag trace at kind ≡ false → recordAt trace at kind ≡ Got (eventAt trace at kind) (nextPlace at kind)
+        unfolding recordAt
+        record-whole h = simp (eq-eqb _ _ right, le-ltb _ _ whole, h)
+
+  -- a record that was read takes 4 bytes and its payload, and ends within the trace
+  abbrev pub Within : Read → Type 0
+  Within End = Unit {0}
+  Within (Bad refusal) = Unit {0}
+  Within (Got e next) = (at + 4 + payloadOf e ≤ next) × (next ≤ length trace)
+
+  within-event : (kind : Kind) → nextPlace at kind ≤ length trace → Within (Got (eventAt trace at kind) (nextPlace at kind))
+  within-event Retirement h = (omega arith, h)
+  within-event Break h = (omega arith, h)
+  within-event ClearAll h = (omega arith, h)
+  within-event ClearUser h = (omega arith, h)
+
+  within-body : (kind : KindRead) → Within (bodyAt trace at kind)
+  unfolding recordAt
+  within-body Unknown = tt
+  within-body (Known kind) =
+      by-test Within (not (eqb (lengthAt trace at) (payloadLength kind))) _ _ (λ _. tt)
+      (λ _. by-test Within (ltb (length trace) (nextPlace at kind)) _ _ (λ _. tt)
+      (λ h. by-test Within (highFlag trace at kind) _ _ (λ _. tt) (λ _. within-event kind (ltb-false _ _ h))))
+
+  within : Within (readAt trace at)
+  unfolding readAt
+  within =
+      by-test Within (eqb (remaining trace at) 0) _ _ (λ _. tt)
+      (λ _. by-test Within (ltb (remaining trace at) 4) _ _ (λ _. tt) (λ _. within-body (kindOf (kindAt trace at))))
+
+  pub got-ends : (e : Event) (next : ℕ) → readAt trace at ≡ Got e next → (at + 4 + payloadOf e ≤ next) × (next ≤ length trace)
+  got-ends e next q = subst Within q within

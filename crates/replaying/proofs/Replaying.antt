@@ -1,0 +1,143 @@
+-- The replay's text: the listing, and behind it the next state's image in rows; and the two parts of the input.
+-- Assumes nothing.
+use Prim.Native.Nat.{ℕ, _+_, _-_, _≤_, min}
+use mathlib.Core.Path.{_≡_, refl, sym, ap, _∙_}
+use mathlib.Core.List.{List, _++_, append-nil}
+use mathlib.Core.Bool.{Bool, true, false}
+use native.Mathlib.Nat.{min-eq-right}
+use native.Mathlib.Omega.{arith}
+use lib.ListN.{length, take, drop, length-append, length-drop, drop-of-length-le}
+use lib.Seq.{take-all}
+use lib.Dec.{ltb}
+use borrow.Author.Tests.{le-ltb, ltb-true, ltb-false}
+use Rattle.little_endian.specs.Numbers.{bytesOf, putAt}
+use Rattle.text.specs.Written.{textOf, written, writtenOf}
+use Rattle.text.proofs.Writing.{wrote, wrote-more, wrote-whole}
+use Rattle.dispatch.specs.Windows.{seen}
+use Rattle.step.specs.declared.Event.{Event}
+use Rattle.step.specs.declared.Oep060Timing.{Oep060Timing}
+use Rattle.outcome.specs.declared.Refusal.{Refusal}
+use Rattle.outcome.specs.declared.Verdict.{Verdict}
+use Rattle.outcome.specs.declared.Verdict.the-variants.{Accepted, Refused}
+use Rattle.trace.specs.Trace.{Trace, events, refused}
+use Rattle.image.specs.declared.ImageWritten.{ImageWritten}
+use Rattle.image.specs.declared.ImageRead.{ImageRead}
+use Rattle.image.specs.Image.{bytesOfEach, headerBytes, windowBytes, imageOf}
+use Rattle.image.specs.Entries as image
+use Rattle.image.specs.Entries.{imageWriteOf, imageReadOf}
+use Rattle.image.proofs.Numbers.{each-length}
+use Rattle.image.proofs.Writing.{header-length}
+use Rattle.listing.specs.declared.Listed.{Listed}
+use Rattle.listing.specs.Lines.{refusalLine}
+use Rattle.listing.specs.Listing.{Outcome, outcome, outcomeBy, judgedOf, tableOf}
+use Rattle.listing.proofs.Within.{text-fits, listed-text}
+use Rattle.replaying.specs.Rows.{hexRows}
+use Rattle.replaying.specs.Replay.{imageIn, traceIn, shown, replayBy, replayOf}
+use Rattle.replaying.proofs.Rows.{rows-length}
+
+-- ---- the image that is written
+image-long : (t : Oep060Timing) → length (t .cache .tags) ≡ 256 → length (t .cache .state) ≡ 256 → length (imageOf t) ≡ 1288
+unfolding imageOf bytesOf
+image-long t a b =
+    let front : List ℕ = headerBytes ++ bytesOfEach 4 (t .cache .tags) in
+    let all : List ℕ = front ++ bytesOfEach 1 (t .cache .state) in
+    omega (
+      arith,
+      header-length,
+      each-length 4 (t .cache .tags),
+      each-length 1 (t .cache .state),
+      length-append headerBytes (bytesOfEach 4 (t .cache .tags)),
+      length-append front (bytesOfEach 1 (t .cache .state)),
+      length-append all (windowBytes (seen (t .window))),
+    )
+
+pub image-fills : (t : Oep060Timing) (lent : List ℕ) → length lent ≡ 1288 → length (t .cache .tags) ≡ 256 → length (t .cache .state) ≡ 256
+    → {w : ImageWritten} {bytes : List ℕ} → image.outcome w bytes ≡ imageWriteOf t lent → bytes ≡ imageOf t
+unfolding imageWriteOf putAt
+image-fills t lent l a b e =
+    let n = image-long t a b in
+    let q = simp (le-ltb (length lent) 1288 (omega arith)) at (ap (λ (o : image.Outcome). o .lent) e) in
+    q ∙ rw (drop-of-length-le lent {i = 0 + length (imageOf t)} (omega arith)) (append-nil (imageOf t))
+
+-- ---- the text
+pub shown-refused : (said : Trace) (out : List ℕ) (t : Oep060Timing) {r : Listed} {after : List ℕ} {refusal : Refusal}
+    → outcome r after ≡ outcomeBy said out t → r .verdict ≡ Refused refusal → written (r .len) after ≡ writtenOf out 0 (shown said t)
+shown-refused (refused other) out t e v = listed-text (refused other) out t e
+shown-refused (events es) out t e v =
+    let u = ap (λ (o : Outcome). o .answer .verdict) e in
+    let z : _≡_ {A = ℕ} 0 1 = cc in
+    absurd (omega arith)
+
+never : (refusal : Refusal) (out : List ℕ) (t : Oep060Timing) {r : Listed} {after : List ℕ}
+    → outcome r after ≡ outcomeBy (refused refusal) out t → r .verdict ≡ Accepted → ⊥
+never refusal out t e v =
+    let u = ap (λ (o : Outcome). o .answer .verdict) e in
+    let z : _≡_ {A = ℕ} 0 1 = cc in
+    omega arith
+
+-- every text of this trace is short enough
+abbrev Bound : Trace → Oep060Timing → Type 0
+Bound said t = (es : List Event) → said ≡ events es → length (tableOf es t) ≤ 65588
+
+short : (said : Trace) (out : List ℕ) (t : Oep060Timing) → Bound said t → {r : Listed} {after : List ℕ}
+    → outcome r after ≡ outcomeBy said out t → r .verdict ≡ Accepted → r .len ≤ 65588
+short (events es) out t f e v = omega (arith, f es refl, ap (λ (o : Outcome). o .answer .len) e)
+short (refused refusal) out t f e v = absurd (never refusal out t e v)
+
+-- the rows follow
+rows : (said : Trace) (out : List ℕ) (t : Oep060Timing) → 68224 ≤ length out → Bound said t → {r : Listed} {after : List ℕ}
+    → outcome r after ≡ outcomeBy said out t → r .verdict ≡ Accepted → length (imageOf (r .timing)) ≡ 1288
+    → {n : ℕ} {last : List ℕ} → written n last ≡ writtenOf after (r .len) (hexRows 41 (imageOf (r .timing)))
+    → written n last ≡ writtenOf out 0 (shown said t)
+rows (events es) out t room f {r} e v l d =
+    let b = f es refl in
+    let w = wrote out 0 (tableOf es t) (omega arith) (listed-text (events es) out t e) in
+    rw (← ap (λ (o : Outcome). o .answer .timing) e)
+    (wrote-whole (wrote-more w (hexRows 41 (imageOf (r .timing))) (omega (arith, w .place, rows-length 41 (imageOf (r .timing)))) d))
+rows (refused refusal) out t room f e v l d = absurd (never refusal out t e v)
+
+module _ (trace out : List ℕ) (t : Oep060Timing) {r : Listed} {after : List ℕ} (e : outcome r after ≡ outcomeBy (judgedOf trace) out t) (v : r .verdict ≡ Accepted) where
+  bound : Bound (judgedOf trace) t
+  bound es q = text-fits trace t q
+
+  pub replay-room : r .len ≤ 65588
+  replay-room = short (judgedOf trace) out t bound e v
+
+  pub replay-shown : 68224 ≤ length out → length (r .timing .cache .tags) ≡ 256 → length (r .timing .cache .state) ≡ 256
+      → {bytes : List ℕ} → bytes ≡ imageOf (r .timing) → {n : ℕ} {last : List ℕ} → written n last ≡ writtenOf after (r .len) (hexRows 41 bytes)
+      → written n last ≡ writtenOf out 0 (shown (judgedOf trace) t)
+  replay-shown room a b q d = rows (judgedOf trace) out t room bound e v (image-long (r .timing) a b) (rw q at d)
+
+-- ---- the two parts of the input
+module _ (input : List ℕ) where
+  image-part : take (min (length input) 1288) input ≡ take 1288 input
+  image-part = go (ltb (length input) 1288) refl
+    where
+      go : (b : Bool) → ltb (length input) 1288 ≡ b → take (min (length input) 1288) input ≡ take 1288 input
+      go true q =
+          let h = ltb-true (length input) 1288 q in
+          take-all (min (length input) 1288) input (omega arith) ∙ sym (take-all 1288 input (omega arith))
+      go false q = rw (min-eq-right (ltb-false (length input) 1288 q))
+
+  trace-part : drop (min (length input) 1288) input ≡ drop 1288 input
+  trace-part = go (ltb (length input) 1288) refl
+    where
+      go : (b : Bool) → ltb (length input) 1288 ≡ b → drop (min (length input) 1288) input ≡ drop 1288 input
+      go true q =
+          let h = ltb-true (length input) 1288 q in
+          drop-of-length-le input {i = min (length input) 1288} (omega arith) ∙ sym (drop-of-length-le input {i = 1288} (omega arith))
+      go false q = rw (min-eq-right (ltb-false (length input) 1288 q))
+
+  module _ {size : ℕ} (least : size ≡ min (length input) 1288) {read : ImageRead} (e : read ≡ imageReadOf (take size input)) where
+    image-read : read ≡ imageReadOf (imageIn input)
+    image-read = e ∙ ap imageReadOf (ap (λ (n : ℕ). take n input) least ∙ image-part)
+
+    pub replay-refused : {refusal : Refusal} → read .verdict ≡ Refused refusal → replayOf input ≡ textOf "image " ++ refusalLine refusal
+    replay-refused v = ap (λ (u : Verdict). replayBy u input) (sym (ap (λ (x : ImageRead). x .verdict) image-read) ∙ v)
+
+    pub replay-accepted : read .verdict ≡ Accepted → replayOf input ≡ shown (judgedOf (take (length input - size) (drop size input))) (read .timing)
+    replay-accepted v =
+        let all : take (length input - size) (drop size input) ≡ drop size input = take-all (length input - size) (drop size input) (omega (arith, length-drop size input)) in
+        let rest : take (length input - size) (drop size input) ≡ traceIn input = all ∙ ap (λ (n : ℕ). drop n input) least ∙ trace-part in
+        ap (λ (u : Verdict). replayBy u input) (sym (ap (λ (x : ImageRead). x .verdict) image-read) ∙ v)
+        ∙ sym (ap (λ (l : List ℕ). shown (judgedOf l) (read .timing)) rest ∙ ap (λ (x : ImageRead). shown (judgedOf (traceIn input)) (x .timing)) image-read)
