@@ -1,6 +1,6 @@
-//! The port against the Rust module, case by case, through the program `cases`.
+//! The port against the Rust module, case by case, through the programs `cases` and `batches`.
 //!
-//! A case is 8 bytes (what, dirty, room 2, image length 2, length 2), a state image or nothing, and bytes; `cases` answers a line:
+//! A case is 8 bytes (what, dirty, room 2, image length 2, length 2), a state image or nothing, and bytes; the answer is a line:
 //! WHAT VERDICT NUMBER PLACE COUNT TOTAL LENT STATE. The lent bytes hold a pattern beforehand, so that a byte written or not shows.
 use crate::core060::timing_060::Oep060Timing;
 use crate::format::*;
@@ -47,6 +47,25 @@ pub struct Case {
 const TRACE: u8 = 1;
 const READ: u8 = 2;
 const WRITE: u8 = 3;
+const BATCH: u8 = 4;
+const FOUR: u8 = 5;
+const BREAK: u8 = 6;
+
+// What a run gives: the verdict, the count and the total. The costs go into the lent bytes.
+fn ran(events: Result<Vec<Event>, Refused>, lent: &mut [u8], state: &mut Oep060Timing) -> String {
+    let (mut count, mut total) = (0, 0u64);
+    match events {
+        Err((n, p)) => format!("refused {n} {p} 0 0"),
+        Ok(events) => {
+            for cost in events.iter().filter_map(|e| step(state, e)) {
+                lent[4 * count..4 * count + 4].copy_from_slice(&(cost as u32).to_le_bytes());
+                count += 1;
+                total += cost as u64;
+            }
+            format!("accepted 0 0 {count} {total}")
+        }
+    }
+}
 
 impl Case {
     fn encode(&self, out: &mut Vec<u8>) {
@@ -59,31 +78,35 @@ impl Case {
         out.extend(&self.bytes);
     }
 
+    fn batch(&self) -> bool {
+        self.what == BATCH || self.what == FOUR
+    }
+
+    fn program(&self) -> &'static str {
+        if self.what < BATCH { "cases" } else { "batches" }
+    }
+
     // What the port must answer. A dirty start is a shut window with its other fields set: to the Rust it is no head.
     fn expected(&self) -> String {
-        let mut lent: Vec<u8> = (0..self.room).map(|i| (i * 7 + 3) as u8).collect();
+        let bytes = if self.batch() { 4 * self.room } else { self.room };
+        let mut lent: Vec<u8> = (0..bytes).map(|i| (i * 7 + 3) as u8).collect();
         let mut state = if self.image.is_empty() { Oep060Timing::default() } else { read_image(&self.image).unwrap_or_default() };
         if self.dirty {
             state.pending_head = None;
         }
         match self.what {
-            TRACE => {
-                let (mut count, mut total) = (0u64, 0u64);
-                let verdict = match read_trace(&self.bytes, self.room) {
-                    Err((n, p)) => format!("refused {n} {p}"),
-                    Ok(events) => {
-                        for e in &events {
-                            if let Some(cost) = step(&mut state, e) {
-                                let at = count as usize * 4;
-                                lent[at..at + 4].copy_from_slice(&(cost as u32).to_le_bytes());
-                                count += 1;
-                                total += cost as u64;
-                            }
-                        }
-                        "accepted 0 0".to_string()
-                    }
+            TRACE | BATCH | FOUR => {
+                let (what, events) = match self.what {
+                    TRACE => ("trace", read_trace(&self.bytes, self.room)),
+                    BATCH => ("batch", read_batch(&self.bytes, self.room)),
+                    _ => ("four", read_batch(&self.bytes, self.room)),
                 };
-                format!("trace {verdict} {count} {total} {} {}", hex(&lent), shown(&state))
+                let gave = ran(events, &mut lent, &mut state);
+                format!("{what} {gave} {} {}", hex(&lent), shown(&state))
+            }
+            BREAK => {
+                step(&mut state, &Event::Break);
+                format!("break accepted 0 0 0 0 - {}", shown(&state))
             }
             READ => match read_image(&self.bytes) {
                 Err((n, p)) => format!("read refused {n} {p} 0 0 - {}", shown(&Oep060Timing::default())),
@@ -275,19 +298,103 @@ pub fn cases(rng: &mut Random, scale: u64) -> Vec<Case> {
     all
 }
 
-// The cases at the limits of each refusal, written out.
-fn limits() -> Vec<Case> {
+// The retirements among events, as a batch: mostly with just enough room, one short, or more.
+fn batch_case(rng: &mut Random, events: &[Event]) -> Case {
+    let mut bytes = Vec::new();
+    for e in events {
+        if let Event::Retired(r) = e {
+            let flags = if rng.one_in(50) { r.flags | (rng.next() as u16 & 0xFFE0) } else { r.flags };
+            bytes.extend(payload(&Retirement { flags, ..*r }));
+        }
+    }
+    let needed = bytes.len() / 16;
+    let what = if needed == 4 && rng.one_in(2) { FOUR } else { BATCH };
+    if what == BATCH && rng.one_in(8) {
+        bytes.extend((0..1 + rng.below(15)).map(|_| rng.next() as u8));
+    }
+    let room = match rng.below(16) {
+        0 => needed.saturating_sub(1),
+        1 => rng.below(needed as u64 + 1) as usize,
+        2..=8 => needed,
+        _ => needed + rng.below(9) as usize,
+    };
+    let image = if rng.one_in(2) { image(rng) } else { Vec::new() };
+    Case { what, dirty: rng.one_in(4), room, image, bytes }
+}
+
+pub fn batches(rng: &mut Random, scale: u64) -> Vec<Case> {
+    let mut all = Vec::new();
+    for _ in 0..25 * scale {
+        let size = rng.pick(&[0, 1, 2, 3, 4, 5, 40, 400]);
+        let events = events(rng, size);
+        all.push(batch_case(rng, &events));
+    }
+    for _ in 0..25 * scale {
+        let style = rng.below(4);
+        let events: Vec<Event> = (0..4).map(|_| Event::Retired(random_retirement(rng, style))).collect();
+        all.push(batch_case(rng, &events));
+    }
+    // all loops, and all that the bytes of a case hold
+    for _ in 0..scale.div_ceil(4) {
+        let mut events = Vec::new();
+        while events.len() < 4095 {
+            let turns = 1 + rng.below(40);
+            realistic(rng, &mut events, turns);
+        }
+        events.truncate(rng.pick(&[1000, 4094, 4095]));
+        all.push(batch_case(rng, &events));
+    }
+    for _ in 0..3 * scale {
+        let image = if rng.one_in(8) { Vec::new() } else { image_with(rng, 1) };
+        all.push(Case { what: BREAK, dirty: rng.one_in(4), room: 0, image, bytes: Vec::new() });
+    }
+    all
+}
+
+// Document 01's worked instructions: MOVEQ into D0 and D1, and the branch to itself twice.
+fn worked() -> [Event; 4] {
     let retired = |op, flags, ppc, pc, raw| Event::Retired(Retirement { op, flags, ppc, pc, raw });
-    let worked = [
+    [
         retired(0x7000, 0x1E, 0x1000, 0x1002, 4),
         retired(0x7200, 0x1E, 0x1002, 0x1004, 4),
         retired(0x60FE, 0x1F, 0x1004, 0x1004, 10),
         retired(0x60FE, 0x1F, 0x1004, 0x1004, 10),
-        Event::Break,
-        Event::ClearAll,
-        Event::ClearUser,
-    ];
-    let good: Vec<u8> = worked.iter().flat_map(record).collect();
+    ]
+}
+
+// An image with its window open, or shut.
+fn image_with(rng: &mut Random, open: u8) -> Vec<u8> {
+    loop {
+        let s = image(rng);
+        if s[1284] == open {
+            return s;
+        }
+    }
+}
+
+// Batches and breaks at their limits: no record, room that is one short, just enough and more, from every kind of window.
+fn batch_limits() -> Vec<Case> {
+    let mut all = Vec::new();
+    let good: Vec<u8> = worked().iter().flat_map(|e| record(e)[4..].to_vec()).collect();
+    let mut rng = Random::new(2);
+    let (open, shut) = (image_with(&mut rng, 1), image_with(&mut rng, 0));
+    let starts = [(false, Vec::new()), (false, open.clone()), (false, shut.clone()), (true, open), (true, shut), (true, Vec::new())];
+    for (dirty, image) in starts {
+        let case = |what, room, bytes: &[u8]| Case { what, dirty, room, image: image.clone(), bytes: bytes.to_vec() };
+        all.extend([case(BATCH, 0, &[]), case(BATCH, 5, &[]), case(BATCH, 0, &good[..15]), case(BATCH, 0, &good[..16]), case(BATCH, 1, &good[..31])]);
+        for room in [0, 3, 4, 5] {
+            all.extend([case(BATCH, room, &good), case(FOUR, room, &good)]);
+        }
+        all.push(case(BREAK, 0, &[]));
+    }
+    all
+}
+
+// The cases at the limits of each refusal, written out.
+fn limits() -> Vec<Case> {
+    let mut events = worked().to_vec();
+    events.extend([Event::Break, Event::ClearAll, Event::ClearUser]);
+    let good: Vec<u8> = events.iter().flat_map(record).collect();
     let trace = |bytes: Vec<u8>, room| Case { what: TRACE, dirty: false, room, image: Vec::new(), bytes };
     let mut all = vec![trace(Vec::new(), 0), trace(Vec::new(), 5), trace(good.clone(), 16), trace(good.clone(), 20), trace(good.clone(), 15), trace(good.clone(), 0)];
     let mut changed = |change: &dyn Fn(&mut Vec<u8>)| {
@@ -310,18 +417,7 @@ fn limits() -> Vec<Case> {
         changed(&|s| s[26..28].copy_from_slice(&u16::to_le_bytes(flags)));
     }
     let mut rng = Random::new(1);
-    let open = loop {
-        let s = image(&mut rng);
-        if s[1284] == 1 {
-            break s;
-        }
-    };
-    let shut = loop {
-        let s = image(&mut rng);
-        if s[1284] == 0 {
-            break s;
-        }
-    };
+    let (open, shut) = (image_with(&mut rng, 1), image_with(&mut rng, 0));
     let read = |bytes: Vec<u8>| Case { what: READ, dirty: false, room: 0, image: Vec::new(), bytes };
     all.extend([read(open.clone()), read(shut.clone()), read(Vec::new()), read(open[..1287].to_vec()), read([&open[..], &[0]].concat())]);
     for (base, at, byte) in [(&open, 0, 5), (&open, 1, 6), (&open, 2, 17), (&open, 3, 1), (&open, 1284, 2), (&open, 1284, 255), (&open, 1287, 8), (&open, 1287, 7), (&shut, 1285, 1), (&shut, 1286, 1), (&shut, 1287, 1), (&shut, 1287, 8)] {
@@ -340,34 +436,39 @@ fn limits() -> Vec<Case> {
     all
 }
 
-fn sample() -> Vec<Case> {
-    let mut all = limits();
-    all.extend(cases(&mut Random::new(68060), 1));
+/// The cases that the gate replays through a program.
+pub fn sample(program: &str) -> Vec<Case> {
+    let mut rng = Random::new(68060);
+    let (mut all, more) = match program {
+        "cases" => (limits(), cases(&mut rng, 1)),
+        _ => (batch_limits(), batches(&mut rng, 1)),
+    };
+    all.extend(more);
     all
 }
 
-/// The cases that the gate replays, and what the port must answer.
-pub fn sample_input() -> Vec<u8> {
+pub fn input(cases: &[Case]) -> Vec<u8> {
     let mut bytes = Vec::new();
-    for c in sample() {
+    for c in cases {
         c.encode(&mut bytes);
     }
     bytes
 }
 
-pub fn sample_answers() -> String {
-    sample().iter().map(|c| c.expected() + "\n").collect()
+/// What the port must answer.
+pub fn expected(cases: &[Case]) -> String {
+    cases.iter().map(|c| c.expected() + "\n").collect()
 }
 
 // ---- the run
 
+// The port's answers to cases that one program takes; the runner gets its name as the last word.
 fn answers(runner: &[String], cases: &[Case]) -> Result<Vec<String>, String> {
-    let mut input = Vec::new();
-    for c in cases {
-        c.encode(&mut input);
-    }
+    let input = input(cases);
+    let program = cases[0].program();
     let mut child = Command::new(&runner[0])
         .args(&runner[1..])
+        .arg(program)
         .stdin(Stdio::piped())
         .stdout(Stdio::piped())
         .spawn()
@@ -379,7 +480,7 @@ fn answers(runner: &[String], cases: &[Case]) -> Result<Vec<String>, String> {
     feeder.join().unwrap().map_err(|e| e.to_string())?;
     let status = child.wait().map_err(|e| e.to_string())?;
     if !status.success() {
-        return Err(format!("the program 'cases' ended with {status}"));
+        return Err(format!("the program '{program}' ended with {status}"));
     }
     Ok(text.lines().map(String::from).collect())
 }
@@ -394,7 +495,7 @@ fn differs(runner: &[String], case: &Case) -> Option<String> {
     }
 }
 
-// The smallest trace that still differs: runs of bytes that are not needed are taken out, the longest first.
+// The smallest case that still differs: runs of bytes that are not needed are taken out, the longest first; of a batch, whole records.
 fn shrunk(runner: &[String], case: &Case) -> Case {
     let mut best = case.clone();
     if best.image.len() == IMAGE {
@@ -403,8 +504,12 @@ fn shrunk(runner: &[String], case: &Case) -> Case {
             best = fresh;
         }
     }
-    let mut step = (best.bytes.len() / 2).next_multiple_of(4);
-    while step >= 4 {
+    if best.what == FOUR {
+        return best;
+    }
+    let unit = if best.what == BATCH { 16 } else { 4 };
+    let mut step = (best.bytes.len() / 2).next_multiple_of(unit);
+    while step >= unit {
         let mut at = 0;
         while at + step <= best.bytes.len() {
             let mut less = best.clone();
@@ -412,23 +517,27 @@ fn shrunk(runner: &[String], case: &Case) -> Case {
             if differs(runner, &less).is_some() {
                 best = less;
             } else {
-                at += 4;
+                at += unit;
             }
         }
-        step = if step == 4 { 0 } else { (step / 2).next_multiple_of(4) };
+        step = if step == unit { 0 } else { (step / 2).next_multiple_of(unit) };
     }
     best
 }
 
 pub fn run(runner: &[String], seed: u64, scale: u64) -> Result<(usize, usize), String> {
     let mut rng = Random::new(seed);
-    let mut all = limits();
-    all.extend(cases(&mut rng, scale));
-    let retired: usize = all.iter().filter(|c| c.what == TRACE).map(|c| read_trace(&c.bytes, c.room).map_or(0, |e| retirements(&e))).sum();
-    let count = |w: u8| all.iter().filter(|c| c.what == w).count();
-    println!("{} traces with {retired} retirements, {} images read, {} images written", count(TRACE), count(READ), count(WRITE));
+    let mut first = limits();
+    first.extend(cases(&mut rng, scale));
+    let mut second = batch_limits();
+    second.extend(batches(&mut rng, scale));
+    let count = |all: &[Case], w: u8| all.iter().filter(|c| c.what == w).count();
+    let retired: usize = first.iter().filter(|c| c.what == TRACE).map(|c| read_trace(&c.bytes, c.room).map_or(0, |e| retirements(&e))).sum();
+    println!("{} traces with {retired} retirements, {} images read, {} images written", count(&first, TRACE), count(&first, READ), count(&first, WRITE));
+    let retired: usize = second.iter().filter(|c| c.batch()).map(|c| read_batch(&c.bytes, c.room).map_or(0, |e| e.len())).sum();
+    println!("{} batches and {} batches of four with {retired} retirements, {} breaks", count(&second, BATCH), count(&second, FOUR), count(&second, BREAK));
     let (mut passed, mut failed) = (0, 0);
-    for some in all.chunks(2000) {
+    for some in first.chunks(2000).chain(second.chunks(2000)) {
         let lines = answers(runner, some)?;
         for (i, case) in some.iter().enumerate() {
             let expected = case.expected();

@@ -24,17 +24,20 @@ pub enum Event {
 /// A refusal: its number and place.
 pub type Refused = (u32, usize);
 
+/// The 16 bytes of a retirement.
+pub fn payload(r: &Retirement) -> Vec<u8> {
+    let mut p = Vec::new();
+    p.extend(r.op.to_le_bytes());
+    p.extend(r.flags.to_le_bytes());
+    p.extend(r.ppc.to_le_bytes());
+    p.extend(r.pc.to_le_bytes());
+    p.extend(r.raw.to_le_bytes());
+    p
+}
+
 pub fn record(e: &Event) -> Vec<u8> {
     let (kind, payload) = match e {
-        Event::Retired(r) => {
-            let mut p = Vec::new();
-            p.extend(r.op.to_le_bytes());
-            p.extend(r.flags.to_le_bytes());
-            p.extend(r.ppc.to_le_bytes());
-            p.extend(r.pc.to_le_bytes());
-            p.extend(r.raw.to_le_bytes());
-            (1u16, p)
-        }
+        Event::Retired(r) => (1u16, payload(r)),
         Event::Break => (2, Vec::new()),
         Event::ClearAll => (3, Vec::new()),
         Event::ClearUser => (4, Vec::new()),
@@ -52,6 +55,10 @@ fn u16_at(s: &[u8], at: usize) -> u16 {
 
 fn u32_at(s: &[u8], at: usize) -> u32 {
     u32::from_le_bytes([s[at], s[at + 1], s[at + 2], s[at + 3]])
+}
+
+fn retirement(p: &[u8]) -> Retirement {
+    Retirement { op: u16_at(p, 0), flags: u16_at(p, 2), ppc: u32_at(p, 4), pc: u32_at(p, 8), raw: u32_at(p, 12) as i32 }
 }
 
 /// The events of a trace, or the first refusal: 1; record by record 2 to 6; 7 after all records.
@@ -80,17 +87,11 @@ pub fn read_trace(s: &[u8], room: usize) -> Result<Vec<Event>, Refused> {
         }
         events.push(match kind {
             1 => {
-                let flags = u16_at(s, at + 6);
-                if flags > 31 {
+                let r = retirement(&s[at + 4..at + 20]);
+                if r.flags > 31 {
                     return Err((6, at));
                 }
-                Event::Retired(Retirement {
-                    op: u16_at(s, at + 4),
-                    flags,
-                    ppc: u32_at(s, at + 8),
-                    pc: u32_at(s, at + 12),
-                    raw: u32_at(s, at + 16) as i32,
-                })
+                Event::Retired(r)
             }
             2 => Event::Break,
             3 => Event::ClearAll,
@@ -101,6 +102,18 @@ pub fn read_trace(s: &[u8], room: usize) -> Result<Vec<Event>, Refused> {
     let retirements = events.iter().filter(|e| matches!(e, Event::Retired(_))).count();
     if room < 4 * retirements {
         return Err((7, s.len()));
+    }
+    Ok(events)
+}
+
+/// The retirements of a batch, 16 bytes each, or its refusal: 1, then 7. Bytes beyond the last whole record are none of it.
+pub fn read_batch(s: &[u8], room: usize) -> Result<Vec<Event>, Refused> {
+    let events: Vec<Event> = s.chunks_exact(16).map(|p| Event::Retired(retirement(p))).collect();
+    if events.len() > 1_048_576 {
+        return Err((1, 0));
+    }
+    if room < events.len() {
+        return Err((7, 0));
     }
     Ok(events)
 }

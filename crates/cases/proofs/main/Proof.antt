@@ -1,4 +1,4 @@
--- `main`: a case each turn, in the same three buffers.
+-- `main`: a case each turn.
 -- Assumes nothing.
 use Prim.Native.Nat.{_≤_, _-_}
 use borrow.Author.Needs.{needs}
@@ -6,19 +6,10 @@ use Rattle.cases.proofs.main.Statement.{statement}
 use Rattle.cases.proofs.main.Tie as tie
 
 abbrev Inv-loop : tie.InvT-loop
-Inv-loop image₀ bytes₀ lent₀ i₀ image bytes lent i = i ≤ 1000000
+Inv-loop i₀ i = i ≤ 1000000
 
 abbrev μ-loop : tie.MeasureT-loop
-μ-loop image₀ bytes₀ lent₀ i₀ image bytes lent i = 1000000 - i
-
-slice-aggregate-image : tie.Need-slice-aggregate-image Inv-loop μ-loop
-slice-aggregate-image c = search needs
-
-slice-aggregate-bytes : tie.Need-slice-aggregate-bytes Inv-loop μ-loop
-slice-aggregate-bytes c = search needs
-
-slice-aggregate-lent : tie.Need-slice-aggregate-lent Inv-loop μ-loop
-slice-aggregate-lent c = search needs
+μ-loop i₀ i = 1000000 - i
 
 loop-holds : tie.Need-loop-holds Inv-loop μ-loop
 loop-holds c = search needs
@@ -47,9 +38,6 @@ main-spec =
     (tie.spec
     Inv-loop
     μ-loop
-    slice-aggregate-image
-    slice-aggregate-bytes
-    slice-aggregate-lent
     loop-holds
     one-case-requires
     returns

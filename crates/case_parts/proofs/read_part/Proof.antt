@@ -3,8 +3,8 @@
 use mathlib.Core.Path.{sym}
 use lib.Seq.{length-take-le}
 use borrow.Author.Needs.{needs}
-use Rattle.cases.proofs.read_part.Statement.{statement}
-use Rattle.cases.proofs.read_part.Tie as tie
+use Rattle.case_parts.proofs.read_part.Statement.{statement}
+use Rattle.case_parts.proofs.read_part.Tie as tie
 
 returns : tie.Need-returns
 returns c = search needs

@@ -3,8 +3,8 @@
 use mathlib.Core.Path.{sym}
 use lib.Seq.{length-take-le}
 use borrow.Author.Needs.{needs}
-use Rattle.cases.proofs.start.Statement.{statement}
-use Rattle.cases.proofs.start.Tie as tie
+use Rattle.case_parts.proofs.start.Statement.{statement}
+use Rattle.case_parts.proofs.start.Tie as tie
 
 fresh-requires : tie.Need-fresh-requires
 fresh-requires c κs = search needs

@@ -2,8 +2,8 @@
 -- Assumes nothing.
 use Prim.Native.Nat.{_≤_, _-_}
 use borrow.Author.Needs.{needs}
-use Rattle.cases.proofs.blank.Statement.{statement}
-use Rattle.cases.proofs.blank.Tie as tie
+use Rattle.case_parts.proofs.blank.Statement.{statement}
+use Rattle.case_parts.proofs.blank.Tie as tie
 
 abbrev Inv-loop : tie.InvT-loop
 Inv-loop image i₀ i = i ≤ 1288

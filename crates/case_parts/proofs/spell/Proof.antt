@@ -4,8 +4,8 @@ use Prim.Native.Nat.{_+_, _≤_, _-_}
 use mathlib.Core.Path.{_≡_}
 use lib.ListN.{length}
 use borrow.Author.Needs.{needs}
-use Rattle.cases.proofs.spell.Statement.{statement}
-use Rattle.cases.proofs.spell.Tie as tie
+use Rattle.case_parts.proofs.spell.Statement.{statement}
+use Rattle.case_parts.proofs.spell.Tie as tie
 
 abbrev Inv-loop : tie.InvT-loop
 Inv-loop bytes from text₀ left i₀ text i = (i ≤ 2048) × (left + from ≡ length bytes) × (i ≤ left) × (length text ≡ 4096)

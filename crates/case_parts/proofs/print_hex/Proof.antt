@@ -5,8 +5,8 @@ use mathlib.Core.Path.{_≡_, sym}
 use lib.ListN.{length}
 use lib.Seq.{length-take-le}
 use borrow.Author.Needs.{needs}
-use Rattle.cases.proofs.print_hex.Statement.{statement}
-use Rattle.cases.proofs.print_hex.Tie as tie
+use Rattle.case_parts.proofs.print_hex.Statement.{statement}
+use Rattle.case_parts.proofs.print_hex.Tie as tie
 
 abbrev Inv-loop : tie.InvT-loop
 Inv-loop bytes text₀ from₀ text from = (from ≤ length bytes) × (length text ≡ 4096)
