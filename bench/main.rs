@@ -1,0 +1,77 @@
+//! Rust and Rattle on the same traces in one run: the time a retirement of single steps, of a batch and of a trace run, and their ratio.
+//!
+//! The Rust has neither batch nor trace run: for a batch it steps over the records, for a trace run it reads each record's bytes and steps.
+#![allow(dead_code, unexpected_cfgs)]
+
+mod core060 {
+    pub mod cpu;
+    pub mod timing_060;
+}
+mod library;
+mod rust;
+mod traces;
+
+use std::hint::black_box;
+use std::time::Instant;
+use traces::Trace;
+
+const ROUNDS: usize = 25;
+
+/// A way to run a trace, which gives the total of its clocks.
+type Run<'a> = &'a mut dyn FnMut() -> u64;
+
+fn timed(repeats: usize, run: Run) -> (u128, u64) {
+    let start = Instant::now();
+    let mut total = 0;
+    for _ in 0..repeats {
+        total = black_box(run());
+    }
+    (start.elapsed().as_nanos(), total)
+}
+
+/// The least time a retirement of each, in ns, over rounds in turn: what disturbs a round only adds to it.
+fn least(retirements: usize, first: Run, second: Run) -> (f64, f64) {
+    let repeats = (200_000 / retirements).max(1);
+    let (mut a, mut b) = (u128::MAX, u128::MAX);
+    for _ in 0..ROUNDS {
+        let (time, total) = timed(repeats, first);
+        a = a.min(time);
+        let (time, other) = timed(repeats, second);
+        b = b.min(time);
+        assert_eq!(total, other, "the totals differ");
+    }
+    let each = (retirements * repeats) as f64;
+    (a as f64 / each, b as f64 / each)
+}
+
+fn row(what: &str, trace: &Trace, (rust, port): (f64, f64)) {
+    println!("{what} {} {} {rust:.2} {port:.2} {:.2}", trace.name, trace.records.len(), port / rust);
+}
+
+fn measure(trace: &Trace) {
+    let n = trace.records.len();
+    let (mut costs, mut others) = (vec![0u32; n], vec![0u32; n]);
+    let (mut bytes, mut more) = (vec![0u8; 4 * n], vec![0u8; 4 * n]);
+    let single = least(n, &mut || rust::single(&trace.records, &mut costs), &mut || library::single(&trace.records, &mut others));
+    row("single", trace, single);
+    assert!(costs == others, "single steps: the costs differ");
+    let batch = least(n, &mut || rust::single(&trace.records, &mut costs), &mut || library::batch(&trace.records, &mut others));
+    row("batch", trace, batch);
+    assert!(costs == others, "batch: the costs differ");
+    let run = least(n, &mut || rust::trace(&trace.bytes, &mut bytes), &mut || library::trace(&trace.bytes, &mut more));
+    row("trace", trace, run);
+    assert!(bytes == more, "trace run: the costs differ");
+    println!("batch-to-trace {} {n} {:.2} {:.2} {:.2}", trace.name, run.1, batch.1, batch.1 / run.1);
+}
+
+fn main() {
+    let seed = std::env::args().nth(1).and_then(|s| s.parse().ok()).unwrap_or(60);
+    println!("# what trace retirements rust-ns port-ns ratio (batch-to-trace: trace-ns batch-ns ratio), seed {seed}");
+    for make in [traces::random, traces::looped, traces::mixed] {
+        measure(&make(seed, 100_000));
+    }
+    println!("# growth");
+    for n in [1_000, 10_000, 100_000, 800_000] {
+        measure(&traces::mixed(seed, n));
+    }
+}
