@@ -11,7 +11,25 @@
 #include "timing_060.h"
 #include "system.h"
 
-_Static_assert(sizeof(timing_060_record) == 16 && sizeof(timing_060_ran) == 32 && sizeof(timing_060_masks) == 4, "the structs are packed as the library has them");
+/* The structs as the library has them: sizes and offsets; that each field holds what it says is seen by the runs. */
+#define AT(type, field, place) _Static_assert(__builtin_offsetof(type, field) == (place), #type " " #field)
+_Static_assert(sizeof(timing_060_record) == 16 && sizeof(timing_060_ran) == 32 && sizeof(timing_060_masks) == 4, "sizes of what crosses");
+_Static_assert(sizeof(timing_060_bytes) == 16 && sizeof(timing_060_bytes_mut) == 16 && sizeof(timing_060_words) == 16 && sizeof(timing_060_words_mut) == 16, "sizes of what is lent");
+AT(timing_060_record, op, 0);
+AT(timing_060_record, flags, 2);
+AT(timing_060_record, ppc, 4);
+AT(timing_060_record, pc, 8);
+AT(timing_060_record, raw, 12);
+AT(timing_060_ran, refusal, 0);
+AT(timing_060_ran, place, 8);
+AT(timing_060_ran, count, 16);
+AT(timing_060_ran, total, 24);
+AT(timing_060_masks, uses, 0);
+AT(timing_060_masks, defs, 2);
+AT(timing_060_bytes, count, 8);
+AT(timing_060_bytes_mut, count, 8);
+AT(timing_060_words, count, 8);
+AT(timing_060_words_mut, count, 8);
 
 static void print_decimal(uint64_t x) {
     char s[20];

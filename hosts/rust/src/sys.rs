@@ -40,6 +40,16 @@ pub struct HostMasks {
     pub defs: u16,
 }
 
+// The structs as the library has them: sizes and offsets; that each field holds what it says is seen by the tests.
+const _: () = {
+    use std::mem::{offset_of, size_of};
+    assert!(size_of::<HostRan>() == 32 && offset_of!(HostRan, refusal) == 0 && offset_of!(HostRan, place) == 8);
+    assert!(offset_of!(HostRan, count) == 16 && offset_of!(HostRan, total) == 24);
+    assert!(size_of::<HostMasks>() == 4 && offset_of!(HostMasks, uses) == 0 && offset_of!(HostMasks, defs) == 2);
+    assert!(size_of::<Shared<u8>>() == 16 && offset_of!(Shared<u8>, at) == 0 && offset_of!(Shared<u8>, count) == 8);
+    assert!(size_of::<Lent<u8>>() == 16 && offset_of!(Lent<u8>, at) == 0 && offset_of!(Lent<u8>, count) == 8);
+};
+
 extern "C" {
     pub fn timing_060_fresh_at(tags: &mut [u32; 256], state: &mut [u8; 256], window: &mut [u16; 5]);
     pub fn timing_060_retire_at(tags: &mut [u32; 256], state: &mut [u8; 256], window: &mut [u16; 5], op: u16, flags: u16, ppc: u32, pc: u32, raw: i32) -> u32;
