@@ -12,9 +12,6 @@ use case_parts::print_state;
 use case_parts::read_header;
 use case_parts::read_part;
 use case_parts::start;
-use dispatch::Controls;
-use dispatch::Window;
-use raw::RawCount;
 use step::Oep060Timing;
 use step::Retirement;
 
@@ -49,26 +46,12 @@ fn put_words(words: &[u32], bytes: &mut [u8]) {
     }
 }
 
-fn number(b: bool) -> u16 {
-    if b { 1 } else { 0 }
-}
-
-// A window as a host lends it.
-fn numbers(w: Window) -> [u16; 5] {
-    [
-        number(w.opened),
-        w.defs,
-        number(w.ccr),
-        number(w.mem),
-        number(w.warm),
-    ]
-}
-
 // A batch of words, as a host lends it.
 fn run_words(words: &[u32], places: &mut [u32], lent: &mut [u8], timing: Oep060Timing) -> bool {
     let mut tags = timing.cache.tags;
     let mut state = timing.cache.state;
-    let mut window = numbers(timing.window);
+    let mut window = [0; 5];
+    in_place::put_window(&mut window, timing.window);
     let ran = host::timing_060_run_batch_at(words, places, &mut tags, &mut state, &mut window);
     put_words(places, lent);
     print(b"batch");
@@ -87,21 +70,10 @@ fn record(words: &[u32], i: usize) -> Retirement
 {
     let at = 4 * i;
     let head = words[at];
-    let flags = head / 65536;
-    let controls = Controls {
-        flowed: flags % 2 == 1,
-        cached: flags / 2 % 2 == 1,
-        ess: flags / 4 % 2 == 1,
-        ebc: flags / 8 % 2 == 1,
-        supervisor: flags / 16 % 2 == 1,
-        ppc: words[at + 1],
-        pc: words[at + 2],
-        raw: RawCount(little_endian::i32_of(words[at + 3])),
-    };
-    Retirement {
-        op: (head % 65536) as u16,
-        controls,
-    }
+    let ppc = words[at + 1];
+    let pc = words[at + 2];
+    let raw = little_endian::i32_of(words[at + 3]);
+    in_place::retirement((head % 65536) as u16, (head / 65536) as u16, ppc, pc, raw)
 }
 
 // Four records, as the batch takes them; answers whether they are four.
