@@ -5,8 +5,6 @@ use contract.Lifetimes
 use denote.Ref.{now}
 use Rattle.step.specs.Crate.{cacheAt}
 use Rattle.step.specs.Step.{asked}
-use Rattle.in_place.specs.Lent.{lent}
-use Rattle.in_place.specs.Retire.{paid}
 use Rattle.promises.specs.Determined.{Determined, result}
 use Rattle.branch_cache.proofs.Slot.hit.Reads as branch-cache-slot-hit
 use Rattle.branch_cache.proofs.Slot.predict.Reads as branch-cache-slot-predict
@@ -37,12 +35,6 @@ use Rattle.outcome.proofs.number.Reads as outcome-number
 use Rattle.outcome.proofs.place.Reads as outcome-place
 use Rattle.outcome.proofs.refused.Reads as outcome-refused
 use Rattle.step.proofs.ask_in_place.Reads as step-ask-in-place
-use Rattle.in_place.proofs.window_at.Reads as in-place-window-at
-use Rattle.in_place.proofs.put_window.Reads as in-place-put-window
-use Rattle.in_place.proofs.timing_at.Reads as in-place-timing-at
-use Rattle.in_place.proofs.retirement.Reads as in-place-retirement
-use Rattle.in_place.proofs.retire_at.Reads as in-place-retire-at
-use Rattle.in_place.proofs.retire_in_place.Reads as in-place-retire-in-place
 
 module _ (κs : Lifetimes.Lfts 0) where
   pub branch-cache-slot-hit-determined : Determined result (branch-cache-slot-hit.Post κs)
@@ -129,27 +121,7 @@ module _ (κs : Lifetimes.Lfts 0) where
   pub outcome-refused-determined : Determined result (outcome-refused.Post κs)
   outcome-refused-determined i r r′ x x′ p q = p ∙ sym q
 
-  pub in-place-window-at-determined : Determined result (in-place-window-at.Post κs)
-  in-place-window-at-determined i r r′ x x′ p q = p ∙ sym q
-
-  pub in-place-timing-at-determined : Determined result (in-place-timing-at.Post κs)
-  in-place-timing-at-determined i r r′ x x′ p q = p ∙ sym q
-
-  pub in-place-retirement-determined : Determined result (in-place-retirement.Post κs)
-  in-place-retirement-determined i r r′ x x′ p q = p ∙ sym q
-
 -- the lent arrays too
-module _ (κs : Lifetimes.Lfts 1) where
-  pub in-place-put-window-determined : Determined (λ r x. now (x .0)) (in-place-put-window.Post κs)
-  in-place-put-window-determined i r r′ x x′ p q = p ∙ sym q
-
 module _ (κs : Lifetimes.Lfts 2) where
   pub step-ask-in-place-determined : Determined (λ r x. asked r (cacheAt (now (x .0)) (now (x .1 .0)))) (step-ask-in-place.Post κs)
   step-ask-in-place-determined i r r′ x x′ p q = p ∙ sym q
-
-module _ (κs : Lifetimes.Lfts 3) where
-  pub in-place-retire-at-determined : Determined (λ r x. paid r (lent (now (x .0)) (now (x .1 .0)) (now (x .1 .1 .0)))) (in-place-retire-at.Post κs)
-  in-place-retire-at-determined i r r′ x x′ p q = p ∙ sym q
-
-  pub in-place-retire-in-place-determined : Determined (λ r x. paid r (lent (now (x .0)) (now (x .1 .0)) (now (x .1 .1 .0)))) (in-place-retire-in-place.Post κs)
-  in-place-retire-in-place-determined i r r′ x x′ p q = p ∙ sym q

@@ -14,3 +14,4 @@ pub mod DeterminedRuns
 pub mod Batches
 pub mod DeterminedHosts
 pub mod DeterminedGroups
+pub mod DeterminedInPlace
