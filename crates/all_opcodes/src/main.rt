@@ -6,10 +6,10 @@ use libc::STDOUT_FILENO;
 fn line(op: u16) -> [u8; 20] {
     let info = classifier::info_060(op);
     let masks = masks::reg_masks_060(op);
-    let o = text::hex4(op);
-    let w = text::hex4(info.0);
-    let u = text::hex4(masks.uses);
-    let d = text::hex4(masks.defs);
+    let o = hex::hex4(op);
+    let w = hex::hex4(info.0);
+    let u = hex::hex4(masks.uses);
+    let d = hex::hex4(masks.defs);
     [
         o[0],
         o[1],

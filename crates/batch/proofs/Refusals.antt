@@ -8,10 +8,11 @@ use lib.Dec.{ltb}
 use lib.ListN.{length}
 use Rattle.step.specs.declared.Retirement.{Retirement}
 use Rattle.step.specs.declared.Oep060Timing.{Oep060Timing}
-use Rattle.outcome.specs.declared.Refusal.the-variants.{Oversized, Room}
-use Rattle.outcome.specs.declared.Verdict.{Verdict}
-use Rattle.outcome.specs.declared.Verdict.the-variants.{Accepted, Refused}
-use Rattle.batch.specs.Batch.{judgeOf, outcomeBy, batchOf}
+use Rattle.refusals.specs.declared.Refusal.the-variants.{Oversized, Room}
+use Rattle.refusals.specs.declared.Verdict.{Verdict}
+use Rattle.refusals.specs.declared.Verdict.the-variants.{Accepted, Refused}
+use Rattle.turns.specs.Judge.{judgeOf}
+use Rattle.batch.specs.Batch.{outcomeBy, batchOf}
 use Rattle.batch.specs.Given.{isAccepted, gives}
 
 module _ (rs : List Retirement) (ps : List ℕ) (t : Oep060Timing) where

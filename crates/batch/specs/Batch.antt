@@ -1,6 +1,5 @@
 -- Document 01, "Records and images": the batch. The Rust has none.
 --
---   judgeOf n m         ==  the verdict on n records with m places          "Batch: 1, 7": over 1,048,576 records, then under one place a record
 --   Outcome             ==  what is returned, and every lent place afterwards
 --   outcome ran ps      ==  the outcome of these two
 --   eventsOf rs         ==  the records as events: each a retirement
@@ -10,9 +9,7 @@
 --                                                                           and writes no byte"
 --   batchOf rs ps t     ==  the batch of the records rs with the lent places ps from the state t
 use Prim.Native.Nat.{ℕ}
-use mathlib.Core.Bool.{cond}
 use mathlib.Core.List.{List, map, _++_}
-use lib.Dec.{ltb}
 use lib.ListN.{length, drop}
 use Rattle.step.specs.declared.Retirement.{Retirement}
 use Rattle.step.specs.declared.Event.{Event}
@@ -21,14 +18,11 @@ use Rattle.step.specs.declared.Oep060Timing.{Oep060Timing}
 use Rattle.step.specs.Events.{costs, finally, total}
 use Rattle.step.specs.Crate.{crateBoard}
 use Rattle.step.specs.Step.{stateOf, timingOf, seenOf}
-use Rattle.outcome.specs.declared.Refusal.the-variants.{Oversized, Room}
-use Rattle.outcome.specs.declared.Verdict.{Verdict}
-use Rattle.outcome.specs.declared.Verdict.the-variants.{Accepted, Refused}
+use Rattle.refusals.specs.declared.Verdict.{Verdict}
+use Rattle.refusals.specs.declared.Verdict.the-variants.{Accepted, Refused}
 use Rattle.outcome.specs.declared.Ran.{Ran}
 use Rattle.outcome.specs.Runs.{refusedOf}
-
-unfoldable pub judgeOf : ℕ → ℕ → Verdict
-judgeOf n m = cond (ltb 1048576 n) (Refused Oversized) (cond (ltb m n) (Refused (Room 0)) Accepted)
+use Rattle.turns.specs.Judge.{judgeOf}
 
 pub record Outcome : Type 0 where
   pub ran : Ran

@@ -5,9 +5,9 @@
 use Prim.Native.Nat.{ℕ}
 use mathlib.Core.Bool.{Bool, true, false, _&&_}
 use lib.Dec.{eqb}
-use Rattle.outcome.specs.declared.Verdict.{Verdict}
-use Rattle.outcome.specs.declared.Verdict.the-variants.{Accepted, Refused}
-use Rattle.outcome.specs.Refusals.{numberOf, placeOf}
+use Rattle.refusals.specs.declared.Verdict.{Verdict}
+use Rattle.refusals.specs.declared.Verdict.the-variants.{Accepted, Refused}
+use Rattle.refusals.specs.Refusals.{numberOf, placeOf}
 
 abbrev pub isAccepted : Verdict → Bool
 isAccepted Accepted = true

@@ -7,20 +7,14 @@ use native.Mathlib.Omega.{arith}
 use lib.ListN.{length, getD, replicate, length-set, length-replicate, length-map, List·getD-map}
 use lib.Seq.{set-getD, getD-set-same, getD-set-other}
 use borrow.Author.Tests.{ne-eqb}
+use Rattle.slot.specs.declared.Slot.{Slot}
+use Rattle.slot.specs.declared.Predicted.the-variants.{Miss}
+use Rattle.slot.specs.Slot.{validOf, userOf, hitOf, updateOf}
+use Rattle.slot.proofs.Laws.{slot-miss-predicts, slot-miss-keeps}
 use Rattle.branch_cache.specs.declared.BranchCache060.{BranchCache060}
-use Rattle.branch_cache.specs.declared.Slot.{Slot}
-use Rattle.branch_cache.specs.declared.Predicted.the-variants.{Miss}
-use Rattle.branch_cache.specs.Cache.{validOf, userOf, hitOf, predictOf, updateOf, slotOf, slotAt, slotPut, clearAllOf, clearUserByteOf, clearUserOf, cachePredictOf, cacheUpdateOf}
+use Rattle.branch_cache.specs.Cache.{slotOf, slotAt, slotPut, clearAllOf, clearUserByteOf, clearUserOf, cachePredictOf, cacheUpdateOf}
 
 -- a slot
-
-pub slot-miss-predicts : (slot : Slot) (pc : ℕ) → hitOf slot pc ≡ false → predictOf slot pc ≡ Miss
-unfolding predictOf
-slot-miss-predicts slot pc m = simp m
-
-pub slot-miss-keeps : (slot : Slot) (pc : ℕ) (user : Bool) → hitOf slot pc ≡ false → updateOf slot pc false user ≡ slot
-unfolding updateOf
-slot-miss-keeps slot pc user m = simp m
 
 -- a tag that belongs to another slot than pc does
 pub slot-foreign-misses : (slot : Slot) (pc : ℕ) → (slotOf (slot .tag) ≡ slotOf pc → ⊥) → hitOf slot pc ≡ false

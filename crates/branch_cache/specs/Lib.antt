@@ -1,4 +1,4 @@
 -- Document 01, part 4: the branch cache.
 --
---   Cache   ==  a slot's byte, a slot's rule, and the cache of 256 slots over it
+--   Cache   ==  the cache of 256 slots, over the rule of one slot (crate slot)
 pub mod Cache

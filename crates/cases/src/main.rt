@@ -1,13 +1,15 @@
 // Reads a stream of cases of traces and images, and prints a line each: WHAT VERDICT NUMBER PLACE COUNT TOTAL LENT STATE. docs/TESTS.md has the format.
+ghost use Prim.Native.Nat.{_≤_};
 use case_parts::MOST_CASES;
+use case_parts::end_line;
 use case_parts::fill;
 use case_parts::print;
 use case_parts::print_hex;
 use case_parts::print_ran;
 use case_parts::print_state;
 use case_parts::print_verdict;
-use case_parts::read_header;
-use case_parts::read_part;
+use case_parts::read_case;
+use case_parts::space;
 use case_parts::start;
 use case_parts::watch;
 use step::Oep060Timing;
@@ -26,7 +28,7 @@ fn read_image(bytes: &[u8]) {
     print_verdict(verdict, 0, 0);
     print(b" -");
     print_state(timing);
-    print(b"\n");
+    end_line();
 }
 
 fn write_image(lent: &mut [u8], timing: Oep060Timing) {
@@ -38,44 +40,41 @@ fn write_image(lent: &mut [u8], timing: Oep060Timing) {
     print(b" -\n");
 }
 
-// One case, on the parts of the buffers that it fills.
-fn answer(what: u8, bytes: &[u8], size: usize, lent: &mut [u8], room: usize, timing: Oep060Timing) {
-    if bytes.len() < size {
-        return;
-    }
-    if lent.len() < room {
-        return;
-    }
-    let given = &bytes[..size];
+// One case, on what it gives and lends.
+fn answer(what: u8, image: &[u8], dirty: bool, bytes: &[u8], lent: &mut [u8]) {
+    fill(lent);
+    let timing = start(image, dirty);
     if what == 1 {
-        run_trace(given, &mut lent[..room], timing);
+        run_trace(bytes, lent, timing);
     } else if what == 2 {
-        read_image(given);
+        read_image(bytes);
     } else {
-        write_image(&mut lent[..room], timing);
+        write_image(lent, timing);
     }
+}
+
+// One case, with a buffer for what it lends.
+fn lend(what: u8, image: &[u8], dirty: bool, bytes: &[u8], room: usize)
+    requires { ⌜ room ≤ 65535 ⌝ }
+{
+    let mut buffer = space();
+    let lent: &mut [u8] = &mut buffer;
+    answer(what, image, dirty, bytes, &mut lent[..room]);
+    watch(lent, room);
 }
 
 // Reads one case and answers it; answers whether there was one.
 fn one_case() -> bool {
-    let h = read_header();
-    if !h.came {
-        return false;
-    }
     let mut image = [0u8; 1288];
-    if !read_part(&mut image, h.given) {
-        return false;
+    let mut bytes = space();
+    let h = read_case(&mut image, &mut bytes);
+    let came = h.came;
+    if came {
+        let given = h.given;
+        let size = h.size;
+        lend(h.what, &image[..given], h.dirty, &bytes[..size], h.room);
     }
-    let mut bytes = [0u8; 65535];
-    if !read_part(&mut bytes, h.size) {
-        return false;
-    }
-    let mut lent = [0u8; 65535];
-    fill(&mut lent, h.room);
-    let timing = start(&image, h.given, h.dirty);
-    answer(h.what, &bytes, h.size, &mut lent, h.room, timing);
-    watch(&lent, h.room);
-    true
+    came
 }
 
 fn main() {

@@ -9,7 +9,8 @@ use borrow.Author.Tests.{ne-eqb, le-leb, lt-leb}
 use Rattle.bits.specs.Rows.{otherwise, first}
 use Rattle.class_word.specs.declared.Info060.{Info060}
 use Rattle.operand.specs.Entry.{packed, unclassified}
-use Rattle.classifier.specs.Classify.{groups, move}
+use Rattle.low_groups.specs.LowGroups.{move}
+use Rattle.classifier.specs.Classify.{groups}
 
 -- a group of one number
 pub group-is : (op : ℕ) {g n : ℕ} {r : Info060} → g ≡ n → r ≡ packed (first (groups n op)) → r ≡ packed (first (groups g op))

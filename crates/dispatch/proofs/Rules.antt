@@ -1,7 +1,10 @@
 -- Where none of a list fails, all hold. So a follower that passes the dispatch test is of class 0, and not indexed, unclassified or variable.
+-- And the other way: the test is all six rules joined, which the code's tests are read by.
 -- Assumes nothing.
-use mathlib.Core.Path.{_≡_, refl, sym}
+use mathlib.Core.Path.{_≡_, refl, sym, ap, _∙_}
 use mathlib.Core.Bool.{Bool, true, false, not, cond, _&&_, true≢false}
+use lib.Bits.{bitOr}
+use Rattle.bits.specs.Words.{meets}
 use mathlib.Core.List.{List, [], _∷_}
 use mathlib.Core.Option.{some}
 use Prim.Native.Nat.{ℕ}
@@ -11,8 +14,8 @@ use Rattle.bits.proofs.Bools.{and-left, and-right}
 use Rattle.class_word.specs.Word.{has, classOf, VARIABLE, UNCLASSIFIED, «EA_INDEXED»}
 use Rattle.dispatch.specs.declared.Instruction.{Instruction}
 use Rattle.dispatch.specs.declared.Controls.{Controls}
-use Rattle.dispatch.specs.declared.Window.{Window}
-use Rattle.dispatch.specs.Dispatch.{rules, isSimple, holds, firstFailing, failing, isNone, passes}
+use Rattle.window.specs.declared.Window.{Window}
+use Rattle.dispatch.specs.Dispatch.{isSimple, lateCcr, secondMemory, rules, holds, firstFailing, failing, isNone, passes}
 
 abbrev pub All : {A : Type 0} → (A → Bool) → List A → Type 0
 All h [] = Unit {0}
@@ -59,3 +62,33 @@ module _ (i : Instruction) (k : Controls) (w : Window) (e : passes i k w ≡ tru
   pub passes-simple : Simple (i .word .0)
   unfolding holds
   passes-simple = simple-parts (i .word .0) (passes-all .1 .1 .0)
+
+-- the list's tests, joined
+abbrev allOf : {A : Type 0} → (A → Bool) → List A → Bool
+allOf h [] = true
+allOf h (a ∷ l) = h a && allOf h l
+
+none-joined : {A : Type 0} (h : A → Bool) (l : List A) → isNone (firstFailing h l) ≡ allOf h l
+unfolding firstFailing
+none-joined h [] = refl
+none-joined h (a ∷ l) = go (h a) (none-joined h l)
+  where
+    go : (b : Bool) → isNone (firstFailing h l) ≡ allOf h l → isNone (cond b (firstFailing h l) (some a)) ≡ (b && allOf h l)
+    go true e = e
+    go false e = refl
+
+last-three : (x y z : Bool) → (x && (y && (z && true))) ≡ (x && y && z)
+last-three true true true = refl
+last-three true true false = refl
+last-three true false z = refl
+last-three false y z = refl
+
+pub passes-and : (i : Instruction) (k : Controls) (w : Window)
+    → passes i k w
+    ≡ (k .ess && ((w .warm && k .cached) && (isSimple (i .word .0)
+    && (not (meets (bitOr (i .uses) (i .defs)) (w .defs)) && not (lateCcr (i .word .0) w) && not (secondMemory (i .word .0) w)))))
+unfolding failing holds
+passes-and i k w =
+    none-joined (holds i k w) rules
+    ∙ ap (λ (t : Bool). k .ess && ((w .warm && k .cached) && (isSimple (i .word .0) && t)))
+    (last-three (not (meets (bitOr (i .uses) (i .defs)) (w .defs))) (not (lateCcr (i .word .0) w)) (not (secondMemory (i .word .0) w)))

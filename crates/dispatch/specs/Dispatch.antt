@@ -22,7 +22,7 @@ use Rattle.bits.specs.Words.{meets}
 use Rattle.class_word.specs.Word.{has, classOf, VARIABLE, UNCLASSIFIED, «EA_INDEXED», «USES_CCR_LATE», «READS_MEM», «WRITES_MEM»}
 use Rattle.dispatch.specs.declared.Instruction.{Instruction}
 use Rattle.dispatch.specs.declared.Controls.{Controls}
-use Rattle.dispatch.specs.declared.Window.{Window}
+use Rattle.window.specs.declared.Window.{Window}
 
 abbrev pub memory : ℕ → Bool
 memory word = has word «READS_MEM» || has word «WRITES_MEM»

@@ -1,6 +1,9 @@
-// Part 5 of document 01: the pairing window and the dispatch test.
+// Part 5 of document 01: the dispatch test.
 ghost use mathlib.Core.Path.{_≡_};
-ghost use Rattle.dispatch.specs.Windows.{shut, seen};
+ghost use mathlib.Core.Bool.{not, _&&_};
+ghost use lib.Bits.{bitOr};
+ghost use Rattle.bits.specs.Words.{meets};
+ghost use Rattle.class_word.specs.Word.{has, VARIABLE, UNCLASSIFIED, «EA_INDEXED», «USES_CCR_LATE»};
 ghost use Rattle.dispatch.specs.Dispatch.{memory, isSimple, lateCcr, secondMemory, passes};
 use class_word::F_EA_INDEXED;
 use class_word::F_READS_MEM;
@@ -11,6 +14,7 @@ use class_word::F_WRITES_MEM;
 use class_word::Info060;
 use class_word::OepClass;
 use raw::RawCount;
+use window::Window;
 
 // What an instruction is to the pairing window.
 pub struct Instruction {
@@ -33,40 +37,6 @@ pub struct Controls {
     pub raw: RawCount,
 }
 
-// The Rust's Option<PendingHead060>: `opened` says whether there is a head; the other fields are the head's.
-pub struct Window {
-    pub opened: bool,
-    // def_mask
-    pub defs: u16,
-    // defines_ccr
-    pub ccr: bool,
-    // accessed_mem
-    pub mem: bool,
-    // head_cached
-    pub warm: bool,
-}
-
-impl Window {
-    pub fn shut() -> Window
-        ensures { λ r. ⌜ r ≡ shut ⌝ }
-    {
-        Window {
-            opened: false,
-            defs: 0,
-            ccr: false,
-            mem: false,
-            warm: false,
-        }
-    }
-
-    // A window as it is read: a shut one has zeros.
-    pub fn seen(self) -> Window
-        ensures { λ r. ⌜ r ≡ seen self ⌝ }
-    {
-        if self.opened { self } else { Window::shut() }
-    }
-}
-
 // The instruction has a memory operand.
 pub fn memory(word: Info060) -> bool
     ensures { λ r. ⌜ r ≡ memory (word .0) ⌝ }
@@ -77,46 +47,68 @@ pub fn memory(word: Info060) -> bool
     word.has(F_WRITES_MEM)
 }
 
+// Nothing that keeps an instruction of class 0 out of the second pipeline.
+fn unhindered(word: Info060) -> bool
+    ensures { λ r. ⌜ r ≡ (not (has (word .0) «EA_INDEXED») && not (has (word .0) UNCLASSIFIED) && not (has (word .0) VARIABLE)) ⌝ }
+{
+    if word.has(F_EA_INDEXED) {
+        return false;
+    }
+    if word.has(F_UNCLASSIFIED) {
+        return false;
+    }
+    if word.has(F_VARIABLE) {
+        return false;
+    }
+    true
+}
+
 // Class 0 and nothing that keeps it out of the second pipeline.
 fn simple(word: Info060) -> bool
     ensures { λ r. ⌜ r ≡ isSimple (word .0) ⌝ }
 {
     let class = word.class();
-    match class {
-        OepClass::PoepSoep => {
-            if word.has(F_EA_INDEXED) {
-                return false;
-            }
-            if word.has(F_UNCLASSIFIED) {
-                return false;
-            }
-            if word.has(F_VARIABLE) {
-                return false;
-            }
-            true
-        }
-        OepClass::PoepOnly => false,
-        OepClass::PoepUntilLast => false,
-        OepClass::PoepButAllowsSoep => false,
+    if let OepClass::PoepSoep = class {
+        unhindered(word)
+    } else {
+        false
     }
 }
 
-fn late_ccr(word: Info060, w: Window) -> bool
-    ensures { λ r. ⌜ r ≡ lateCcr (word .0) w ⌝ }
+// `ccr`: the head defines the CCR.
+fn late_ccr(word: Info060, ccr: bool) -> bool
+    ensures { λ r. ⌜ r ≡ (has (word .0) «USES_CCR_LATE» && ccr) ⌝ }
 {
     if word.has(F_USES_CCR_LATE) {
-        return w.ccr;
+        return ccr;
     }
     false
 }
 
-fn second_memory(word: Info060, w: Window) -> bool
-    ensures { λ r. ⌜ r ≡ secondMemory (word .0) w ⌝ }
+// `mem`: the head accessed memory.
+fn second_memory(word: Info060, mem: bool) -> bool
+    ensures { λ r. ⌜ r ≡ (memory (word .0) && mem) ⌝ }
 {
     if memory(word) {
-        return w.mem;
+        return mem;
     }
     false
+}
+
+// The last three rules: what the follower would take from the head.
+fn takes_nothing(i: Instruction, w: Window) -> bool
+    ensures { λ r. ⌜ r ≡ (not (meets (bitOr (i .uses) (i .defs)) (w .defs)) && not (lateCcr (i .word .0) w) && not (secondMemory (i .word .0) w)) ⌝ }
+{
+    if (i.uses | i.defs) & w.defs != 0 {
+        return false;
+    }
+    if late_ccr(i.word, w.ccr) {
+        return false;
+    }
+    if second_memory(i.word, w.mem) {
+        return false;
+    }
+    true
 }
 
 // The first rule that fails refuses the pair.
@@ -135,14 +127,5 @@ pub fn soep_dispatch_test(i: Instruction, k: Controls, w: Window) -> bool
     if !simple(i.word) {
         return false;
     }
-    if (i.uses | i.defs) & w.defs != 0 {
-        return false;
-    }
-    if late_ccr(i.word, w) {
-        return false;
-    }
-    if second_memory(i.word, w) {
-        return false;
-    }
-    true
+    takes_nothing(i, w)
 }

@@ -14,9 +14,9 @@ use Prim.Native.Nat.{ℕ}
 use mathlib.Core.List.{List}
 use Rattle.image.specs.declared.ImageRead.{ImageRead}
 use Rattle.image.specs.Entries.{Outcome, imageWriteOf, imageReadOf}
-use Rattle.host.specs.declared.HostRan.{HostRan}
+use Rattle.host_numbers.specs.declared.HostRan.{HostRan}
 use Rattle.in_place.specs.Lent.{Lent, stateAt, lentOf}
-use Rattle.host.specs.Runs.{hostRanOf}
+use Rattle.host_numbers.specs.Ran.{hostRanOf}
 
 pub record HostImage : Type 0 where
   pub ran : HostRan

@@ -7,8 +7,8 @@ use native.Mathlib.Omega.{arith}
 use lib.Dec.{eqb}
 use Rattle.bits.specs.Words.{num, bit}
 use Rattle.bits.proofs.Words.{num-small, num-is}
-use Rattle.dispatch.specs.declared.Window.{Window}
-use Rattle.image.specs.Image.{bitsOf}
+use Rattle.window.specs.declared.Window.{Window}
+use Rattle.image_bytes.specs.Bytes.{bitsOf}
 
 -- a digit that is a yes or no
 digit-is : (n : ℕ) (b : Bool) → n ≡ num b → eqb n 1 ≡ b

@@ -1,5 +1,4 @@
 pub mod Numbers
-pub mod Filling
 pub mod Writing
 pub mod Refusals
 pub mod Bits

@@ -13,11 +13,14 @@ use Rattle.bits.specs.Words.{bit}
 use Rattle.bits.proofs.Bools.{and-left, and-right}
 use Rattle.little_endian.specs.Numbers.{numberAt, bytesOf, Below}
 use Rattle.little_endian.proofs.Numbers.{bytes-number}
-use Rattle.dispatch.specs.declared.Window.{Window}
-use Rattle.dispatch.specs.Windows.{seen}
-use Rattle.outcome.specs.declared.Verdict.the-variants.{Accepted}
-use Rattle.image.specs.Image.{bytesOfEach, bitsOf, headerBytes, windowBytes, imageOf, tagsAt, slotsAt, openAt, defMaskAt, bitsAt, windowAt, stateAt}
-use Rattle.image.specs.Entries.{headerWrong, shutNotZero, windowWrong, judgedOf}
+use Rattle.window.specs.declared.Window.{Window}
+use Rattle.window.specs.Windows.{seen}
+use Rattle.refusals.specs.declared.Verdict.the-variants.{Accepted}
+use Rattle.image_bytes.specs.Bytes.{bytesOfEach, bitsOf, headerBytes, windowBytes}
+use Rattle.image_state.specs.Parts.{tagsAt, slotsAt, openAt, defMaskAt, bitsAt, windowAt}
+use Rattle.image_state.specs.Wrong.{headerWrong, shutNotZero, windowWrong}
+use Rattle.image.specs.Image.{imageOf, stateAt}
+use Rattle.image.specs.Entries.{judgedOf}
 use Rattle.image.proofs.Numbers.{each-numbers}
 use Rattle.image.proofs.Bits.{bits-all}
 use Rattle.image.proofs.Refusals.{image-judged}

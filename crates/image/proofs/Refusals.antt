@@ -10,12 +10,13 @@ use lib.Dec.{eqb, ltb}
 use lib.ListN.{length}
 use borrow.Author.Tests.{eq-eqb, ne-eqb, eqb-true, eqb-false, lt-ltb, ltb-true}
 use Rattle.bits.specs.Rows.{otherwise, _⇒_⨾_, first}
-use Rattle.outcome.specs.declared.Refusal.the-variants.{Oversized, Remainder, Kind, Length, Cut, Flag, Room, ImageLength, ImageHeader, ImageWindow}
-use Rattle.outcome.specs.declared.Verdict.{Verdict}
-use Rattle.outcome.specs.declared.Verdict.the-variants.{Accepted, Refused}
+use Rattle.refusals.specs.declared.Refusal.the-variants.{Oversized, Remainder, Kind, Length, Cut, Flag, Room, ImageLength, ImageHeader, ImageWindow}
+use Rattle.refusals.specs.declared.Verdict.{Verdict}
+use Rattle.refusals.specs.declared.Verdict.the-variants.{Accepted, Refused}
 use Rattle.step.specs.declared.Oep060Timing.{Oep060Timing}
+use Rattle.image_state.specs.Wrong.{headerWrong, windowWrong}
 use Rattle.image.specs.declared.ImageRead.{ImageRead}
-use Rattle.image.specs.Entries.{headerWrong, windowWrong, judgedOf, timingBy, imageWriteOf, imageReadOf}
+use Rattle.image.specs.Entries.{judgedOf, timingBy, imageWriteOf, imageReadOf}
 use Rattle.image.specs.Given.{GivenWhen}
 
 -- the verdict of the rows by their three tests

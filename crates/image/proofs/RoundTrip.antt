@@ -9,7 +9,7 @@ use borrow.Author.Tests.{le-ltb}
 use Rattle.little_endian.specs.Numbers.{putAt, Below}
 use Rattle.step.specs.declared.Oep060Timing.{Oep060Timing}
 use Rattle.step.specs.Step.{seenOf}
-use Rattle.outcome.specs.declared.Verdict.the-variants.{Accepted}
+use Rattle.refusals.specs.declared.Verdict.the-variants.{Accepted}
 use Rattle.image.specs.declared.ImageRead.{ImageRead}
 use Rattle.image.specs.Image.{imageOf, stateAt, InRange}
 use Rattle.image.specs.Entries.{judgedOf, imageWriteOf, imageReadOf}

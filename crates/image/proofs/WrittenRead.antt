@@ -12,17 +12,21 @@ use Rattle.bits.specs.Words.{num}
 use Rattle.bits.proofs.Words.{num-small, num-is}
 use Rattle.little_endian.specs.Numbers.{numberAt, bytesOf, Below}
 use Rattle.little_endian.proofs.Numbers.{number-behind, number-bytes}
-use Rattle.dispatch.specs.declared.Window.{Window}
-use Rattle.dispatch.specs.Windows.{shut, seen}
+use Rattle.window.specs.declared.Window.{Window}
+use Rattle.window.specs.Windows.{shut, seen}
 use Rattle.step.specs.declared.Oep060Timing.{Oep060Timing}
 use Rattle.step.specs.Step.{seenOf}
-use Rattle.outcome.specs.declared.Verdict.the-variants.{Accepted}
+use Rattle.refusals.specs.declared.Verdict.the-variants.{Accepted}
+use Rattle.image_bytes.specs.Bytes.{bytesOfEach, bitsOf, headerBytes, windowBytes}
+use Rattle.image_bytes.proofs.Numbers.{each-length}
+use Rattle.image_bytes.proofs.Writing.{header-length}
+use Rattle.image_state.specs.Parts.{numbersAt, tagsAt, slotsAt, openAt, defMaskAt, bitsAt, windowAt}
+use Rattle.image_state.specs.Wrong.{headerWrong, shutNotZero, windowWrong}
 use Rattle.image.specs.declared.ImageRead.{ImageRead}
-use Rattle.image.specs.Image.{bytesOfEach, bitsOf, headerBytes, windowBytes, imageOf, numbersAt, tagsAt, slotsAt, openAt, defMaskAt, bitsAt, windowAt, stateAt, InRange}
-use Rattle.image.specs.Entries.{headerWrong, shutNotZero, windowWrong, judgedOf, imageReadOf}
-use Rattle.image.proofs.Numbers.{each-length, numbers-drop, numbers-each}
+use Rattle.image.specs.Image.{imageOf, stateAt, InRange}
+use Rattle.image.specs.Entries.{judgedOf, imageReadOf}
+use Rattle.image.proofs.Numbers.{numbers-drop, numbers-each}
 use Rattle.image.proofs.Bits.{bits-small, bits-apart}
-use Rattle.image.proofs.Writing.{header-length}
 use Rattle.image.proofs.Refusals.{image-judged}
 
 -- numbers are read where they were put

@@ -8,10 +8,10 @@ use mathlib.Core.Path.{_≡_}
 use mathlib.Core.Bool.{true, false}
 use mathlib.Core.List.{List}
 use lib.ListN.{length}
-use Rattle.outcome.specs.declared.Refusal.the-variants.{Oversized, Remainder, Kind, Length, Cut, Flag, Room, ImageLength, ImageHeader, ImageWindow}
-use Rattle.outcome.specs.declared.Verdict.{Verdict}
-use Rattle.outcome.specs.declared.Verdict.the-variants.{Accepted, Refused}
-use Rattle.image.specs.Entries.{headerWrong, windowWrong}
+use Rattle.refusals.specs.declared.Refusal.the-variants.{Oversized, Remainder, Kind, Length, Cut, Flag, Room, ImageLength, ImageHeader, ImageWindow}
+use Rattle.refusals.specs.declared.Verdict.{Verdict}
+use Rattle.refusals.specs.declared.Verdict.the-variants.{Accepted, Refused}
+use Rattle.image_state.specs.Wrong.{headerWrong, windowWrong}
 
 abbrev pub GivenWhen : List ℕ → Verdict → Type 0
 GivenWhen s (Refused ImageLength) = length s ≡ 1288 → ⊥

@@ -9,18 +9,20 @@ use Rattle.class_word.specs.Word.{has, clocks, BRANCH, DBCC}
 use Rattle.branch_cache.specs.declared.BranchCache060.{BranchCache060}
 use Rattle.dispatch.specs.declared.Instruction.{Instruction}
 use Rattle.dispatch.specs.declared.Controls.{Controls}
-use Rattle.dispatch.specs.declared.Window.{Window}
-use Rattle.dispatch.specs.Windows.{shut}
-use Rattle.pairing.specs.declared.Answer.{Answer}
-use Rattle.pairing.specs.declared.Answer.the-variants.{NotConsulted}
+use Rattle.window.specs.declared.Window.{Window}
+use Rattle.window.specs.Windows.{shut}
+use Rattle.branching.specs.declared.Answer.{Answer}
+use Rattle.branching.specs.declared.Answer.the-variants.{NotConsulted}
 use Rattle.pairing.specs.declared.Charged.{Charged}
-use Rattle.pairing.specs.Retiring.{Retiring, Kind, takenOf, otherKind}
-use Rattle.pairing.specs.Cost.{branchCost, asHead, costBy, windowBy, chargedBy, costOf, windowOf}
+use Rattle.pairing.specs.Retiring.{Retiring, Kind, otherKind}
+use Rattle.branching.specs.Branch.{takenOf, branchCost}
+use Rattle.pairing.specs.Cost.{asHead, costBy, windowBy, chargedBy, costOf, windowOf}
 use Rattle.pairing.proofs.Led.{led-open, led-shut, kind-branch, kind-other, other-cost}
 use Rattle.step.specs.Events.{meets, answerOf, cacheAfter}
 use Rattle.step.specs.Crate.{cacheAt, crateCache}
 use Rattle.step.specs.Step.{stateOf, Asked, asked, askedOf, steppedBy}
-use Rattle.in_place.specs.Lent.{Lent, windowAt, numbersOf, lent, stateAt}
+use Rattle.numbers.specs.Windows.{windowAt, numbersOf}
+use Rattle.in_place.specs.Lent.{Lent, lent, stateAt}
 use Rattle.in_place.specs.Retire.{Paid, paid, paidOf}
 
 abbrev met : Lent → Instruction → Controls → Retiring

@@ -1,7 +1,7 @@
 // The break of document 01, on a lent window.
 ghost use mathlib.Core.Path.{_≡_};
-ghost use Rattle.dispatch.specs.Windows.{shut};
-use dispatch::Window;
+ghost use Rattle.window.specs.Windows.{shut};
+use window::Window;
 
 // The Rust's break_060_pipeline: the rule by value, stored in place. A walk by hand.
 pub fn break_060_pipeline(w: &mut Window)

@@ -15,23 +15,24 @@ use Rattle.little_endian.proofs.Numbers.{number-drop, number-bytes, bytes-lengt
 use Rattle.class_word.specs.Word.{has, DBCC, «EA_INDEXED»}
 use Rattle.dispatch.specs.declared.Instruction.{Instruction}
 use Rattle.dispatch.specs.declared.Controls.{Controls}
-use Rattle.dispatch.specs.declared.Window.{Window}
-use Rattle.pairing.specs.declared.Answer.{Answer}
-use Rattle.pairing.specs.declared.Answer.the-variants.{NotConsulted, Miss, PredictedNotTaken, PredictedTaken}
-use Rattle.pairing.specs.Retiring.{Retiring, takenOf, Kind, branch, flow, neither, kindOf}
-use Rattle.pairing.specs.Cost.{askedCost, branchCost, baseOf, pairs, costBy, costOf}
+use Rattle.window.specs.declared.Window.{Window}
+use Rattle.branching.specs.declared.Answer.{Answer}
+use Rattle.branching.specs.declared.Answer.the-variants.{NotConsulted, Miss, PredictedNotTaken, PredictedTaken}
+use Rattle.pairing.specs.Retiring.{Retiring, Kind, branch, flow, neither, kindOf}
+use Rattle.branching.specs.Branch.{takenOf, askedCost, branchCost}
+use Rattle.pairing.specs.Cost.{baseOf, pairs, costBy, costOf}
 use Rattle.raw.proofs.Raw.{fallback-most}
 use Rattle.pairing.proofs.Largest.{plain-most}
 use Rattle.step.specs.declared.Event.{Event}
 use Rattle.step.specs.declared.Event.the-variants.{Retired, Broken, ClearedAll, ClearedUser}
 use Rattle.step.specs.Events.{State, retiringOf, after, retirements, costs, total}
 use Rattle.step.specs.Crate.{crateCache, crateBoard}
-use Rattle.trace.specs.Trace.{countOf}
+use Rattle.records.specs.Trace.{countOf}
 use Rattle.trace.specs.Run.{costBytes}
 use Rattle.record.proofs.Choices.{by-test}
-use Rattle.listing.specs.Lines.{opcodesOf, linesFrom, retirementLine}
+use Rattle.lines.specs.Lines.{opcodesOf, linesFrom, retirementLine}
 use Rattle.listing.specs.Inner.{linesRead}
-use Rattle.listing.proofs.Lengths.{line-most}
+use Rattle.lines.proofs.Lengths.{line-most}
 use Rattle.listing.proofs.Reading.{Raws}
 
 asked-most : (predicted taken opened : Bool) → askedCost predicted taken opened ≤ 7

@@ -1,4 +1,3 @@
-pub mod Lengths
 pub mod Reading
 pub mod Costs
 pub mod Lines

@@ -12,14 +12,14 @@ use Rattle.text.proofs.Writing.{written-none, wrote, wrote-then}
 use Rattle.step.specs.declared.Retirement.{Retirement}
 use Rattle.step.specs.declared.Event.{Event}
 use Rattle.step.specs.declared.Event.the-variants.{Retired, Broken, ClearedAll, ClearedUser}
-use Rattle.outcome.specs.declared.Refusal.{Refusal}
+use Rattle.refusals.specs.declared.Refusal.{Refusal}
 use Rattle.record.specs.declared.Read.the-variants.{Got, Bad, End}
 use Rattle.record.specs.Record.{readAt}
-use Rattle.trace.specs.Trace.{Trace, events, refused, ahead, readFrom, countOf}
-use Rattle.trace.specs.Run.{Fits}
-use Rattle.trace.proofs.Walking.{got-within, from-end, from-bad, from-got}
-use Rattle.trace.proofs.Running.{fits-ahead, fits-room}
-use Rattle.listing.specs.Lines.{retirementLine}
+use Rattle.records.specs.Trace.{Trace, events, refused, ahead, readFrom, countOf}
+use Rattle.records.specs.Judged.{Fits}
+use Rattle.records.proofs.Walking.{got-within, from-end, from-bad, from-got}
+use Rattle.records.proofs.Judging.{fits-ahead, fits-room}
+use Rattle.lines.specs.Lines.{retirementLine}
 use Rattle.listing.specs.Inner.{linesRead, linesOf}
 
 no-line : (k : ℕ) (bytes : List ℕ) (e : Event) (es : List Event) → countOf (e ∷ []) ≡ 0 → linesRead k bytes (e ∷ es) ≡ linesRead k bytes es

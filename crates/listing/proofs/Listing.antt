@@ -6,26 +6,30 @@ use mathlib.Core.List.{List, _++_}
 use native.Mathlib.Nat.{zero-add}
 use native.Mathlib.Omega.{arith}
 use lib.ListN.{length, length-append}
-use borrow.Author.Tests.{lt-ltb, le-ltb}
+use lib.Dec.{ltb}
+use borrow.Author.Tests.{lt-ltb, le-ltb, ltb-false}
 use Rattle.little_endian.specs.Numbers.{putAt}
 use Rattle.text.specs.Written.{Written, written, writtenOf}
 use Rattle.step.specs.declared.Event.{Event}
 use Rattle.step.specs.declared.Oep060Timing.{Oep060Timing}
 use Rattle.step.specs.Events.{total}
 use Rattle.step.specs.Step.{stateOf, seenOf}
-use Rattle.outcome.specs.declared.Refusal.{Refusal}
-use Rattle.outcome.specs.declared.Refusal.the-variants.{Oversized}
-use Rattle.outcome.specs.declared.Verdict.the-variants.{Accepted, Refused}
+use Rattle.refusals.specs.declared.Refusal.{Refusal}
+use Rattle.refusals.specs.declared.Refusal.the-variants.{Oversized}
+use Rattle.refusals.specs.declared.Verdict.the-variants.{Accepted, Refused}
 use Rattle.outcome.specs.declared.Ran.{Ran}
 use Rattle.record.specs.Record.{remaining}
-use Rattle.trace.specs.Trace.{Trace, events, refused, readTrace, countOf}
+use Rattle.record.proofs.Choices.{by-test}
+use Rattle.records.specs.Trace.{Trace, events, refused, readTrace, countOf}
 use Rattle.trace.specs.Run as run
-use Rattle.trace.specs.Run.{costsOf, Fits, withRoom, judged, runTraceOf}
-use Rattle.listing.specs.Lines.{headerLine, refusalLine, totalLine, opcodesOf, linesFrom}
+use Rattle.trace.specs.Run.{costsOf, runTraceOf}
+use Rattle.records.specs.Judged.{judged}
+use Rattle.records.specs.Judged.{withRoom}
+use Rattle.lines.specs.Lines.{headerLine, refusalLine, totalLine, opcodesOf, linesFrom}
 use Rattle.listing.specs.Listing.{judgedOf, tableOf, textBy, verdictBy, timingBy, outcome, outcomeBy}
-use Rattle.listing.specs.Inner.{linesRead, linesOf}
-use Rattle.listing.proofs.Lengths.{total-most}
-use Rattle.listing.proofs.Reading.{Short, short}
+use Rattle.listing.specs.Inner.{linesRead, Ready, printed}
+use Rattle.lines.proofs.Lengths.{total-most}
+use Rattle.listing.proofs.Reading.{Short, Raws, short}
 use Rattle.listing.proofs.Costs.{lines-costs, lines-most, costs-most}
 
 table-most : (size : ℕ) (es : List Event) (t : Oep060Timing) → size ≤ 65536 → Short size (events es) → length (tableOf es t) ≤ 65588
@@ -50,57 +54,6 @@ pub judged-large : (trace : List ℕ) → 65536 < length trace → judgedOf trac
 unfolding judgedOf
 judged-large trace h = simp (lt-ltb _ _ h)
 
-pub listed-large : (trace out : List ℕ) (t : Oep060Timing) {u : Oep060Timing} {n : ℕ} {after : List ℕ} → 65536 < length trace → u ≡ seenOf t
-    → written n after ≡ writtenOf out 0 (refusalLine Oversized)
-    → outcome (record { verdict = Refused Oversized; len = n; timing = u }) after ≡ outcomeBy (judgedOf trace) out t
-listed-large trace out t h q e = rw (judged-large trace h, q) (listed (refused Oversized) out t e)
-
--- what a run of a whole trace gave
-module _ (size : ℕ) (h : size ≤ 65536) (lent bytes : List ℕ) (t : Oep060Timing) (ran : Ran) where
-  abbrev Gave : Trace → Type 0
-  Gave said = Short size said × (run.outcome ran bytes ≡ run.outcomeOf said lent t)
-
-  gave-refused : (said : Trace) → Gave said → {refusal : Refusal} → ran .verdict ≡ Refused refusal → (out : List ℕ) {n : ℕ} {after : List ℕ}
-      → written n after ≡ writtenOf out 0 (refusalLine refusal)
-      → outcome (record { verdict = Refused refusal; len = n; timing = ran .timing }) after ≡ outcomeBy said out t
-  gave-refused (events es) g v out e =
-      let u = ap (λ (o : run.Outcome). o .ran .verdict) (g .1) in
-      let z : _≡_ {A = ℕ} 0 1 = cc in
-      absurd (omega arith)
-  gave-refused (refused other) g {refusal} v out e =
-      let u = ap (λ (o : run.Outcome). o .ran .verdict) (g .1) in
-      let same : other ≡ refusal = cc in
-      rw (same, ap (λ (o : run.Outcome). o .ran .timing) (g .1)) (listed (refused refusal) out t e)
-
-  module _ (v : ran .verdict ≡ Accepted) where
-    never : {refusal : Refusal} → Gave (refused refusal) → ⊥
-    never g =
-        let u = ap (λ (o : run.Outcome). o .ran .verdict) (g .1) in
-        let z : _≡_ {A = ℕ} 0 1 = cc in
-        omega arith
-
-    lines : (es : List Event) → Gave (events es) → linesRead 0 bytes es ≡ linesFrom 0 (opcodesOf es) (costsOf t es)
-    unfolding putAt
-    lines es g = lines-costs 0 bytes _ (stateOf (seenOf t)) es (g .0 .1) (ap (λ (o : run.Outcome). o .bytes) (g .1))
-
-    gave-fits : (said : Trace) → Gave said → {room : ℕ} → 13104 ≤ room → Fits 0 room said
-    gave-fits (events es) g r = omega (arith, g .0 .0)
-    gave-fits (refused refusal) g r = absurd (never g)
-
-    gave-room : (said : Trace) → Gave said → {room : ℕ} → 65600 ≤ room → length (linesOf 0 bytes said) + 68 ≤ room
-    gave-room (events es) g r =
-        omega (arith, g .0 .0, ap length (lines es g), lines-most 0 (stateOf (seenOf t)) es (g .0 .1) (omega (arith, g .0 .0)))
-    gave-room (refused refusal) g r = absurd (never g)
-
-    gave-accepted : (said : Trace) → Gave said → (out : List ℕ) {n : ℕ} {after : List ℕ}
-        → written n after ≡ writtenOf out 0 (headerLine ++ linesOf 0 bytes said ++ totalLine (ran .count) (ran .total))
-        → outcome (record { verdict = Accepted; len = n; timing = ran .timing }) after ≡ outcomeBy said out t
-    gave-accepted (events es) g out e =
-        let k = ap (λ (o : run.Outcome). o .ran .count) (g .1) in
-        let n = ap (λ (o : run.Outcome). o .ran .total) (g .1) in
-        rw (ap (λ (o : run.Outcome). o .ran .timing) (g .1)) (listed (events es) out t (rw (lines es g, k, n) at e))
-    gave-accepted (refused refusal) g out e = absurd (never g)
-
 module _ (trace : List ℕ) (h : length trace ≤ 65536) where
   small : remaining trace 0 ≤ 65536
   small = omega arith
@@ -113,27 +66,64 @@ module _ (trace : List ℕ) (h : length trace ≤ 65536) where
   pub text-most : (t : Oep060Timing) {es : List Event} → judgedOf trace ≡ events es → length (tableOf es t) ≤ 65588
   text-most t {es} e = table-most (remaining trace 0) es t small (subst (Short (remaining trace 0)) (sym judged-same ∙ e) (short trace))
 
-  module _ (lent : List ℕ) {bytes : List ℕ} (t : Oep060Timing) {ran : Ran} (big : 13104 ≤ length lent) (e : run.outcome ran bytes ≡ runTraceOf trace lent t) where
-    run-same : judged trace (length lent) ≡ readTrace trace
-    unfolding judged
-    run-same = simp (le-ltb 16777216 (length trace) (omega arith)) (enough-room (remaining trace 0) (length lent) (length trace) (readTrace trace) small (short trace) big)
+  run-judged : (room : ℕ) → 13104 ≤ room → judged trace room ≡ judgedOf trace
+  unfolding judged
+  run-judged room big = rw judged-same (simp (le-ltb 16777216 (length trace) (omega arith)) (enough-room (remaining trace 0) room (length trace) (readTrace trace) small (short trace) big))
 
-    gave : Gave (remaining trace 0) small lent bytes t ran (readTrace trace)
-    unfolding runTraceOf
-    gave = (short trace, rw (← run-same) e)
+  -- a run that has room for the costs refuses no more
+  pub run-small : (lent : List ℕ) (t : Oep060Timing) → 13104 ≤ length lent → runTraceOf trace lent t ≡ run.outcomeOf (judgedOf trace) lent t
+  unfolding runTraceOf
+  run-small lent t big = ap (λ (said : Trace). run.outcomeOf said lent t) (run-judged (length lent) big)
 
-    pub listed-refused : {refusal : Refusal} → ran .verdict ≡ Refused refusal → (out : List ℕ) {n : ℕ} {after : List ℕ}
-        → written n after ≡ writtenOf out 0 (refusalLine refusal)
-        → outcome (record { verdict = Refused refusal; len = n; timing = ran .timing }) after ≡ outcomeBy (judgedOf trace) out t
-    listed-refused v out d = rw judged-same (gave-refused (remaining trace 0) small lent bytes t ran (readTrace trace) gave v out d)
+-- what is known of what a trace said
+module _ (trace : List ℕ) where
+  abbrev Told : Trace → Type 0
+  Told (events es) = (readTrace trace ≡ events es) × Short 65536 (events es)
+  Told (refused refusal) = Unit {0}
 
-    pub listed-fits : ran .verdict ≡ Accepted → {room : ℕ} → 13104 ≤ room → Fits 0 room (readTrace trace)
-    listed-fits v r = gave-fits (remaining trace 0) small lent bytes t ran v (readTrace trace) gave r
+  told-small : (said : Trace) → readTrace trace ≡ said → length trace ≤ 65536 → Short (remaining trace 0) said → Told said
+  told-small (events es) q h k = (q, (omega (arith, k .0), k .1))
+  told-small (refused refusal) q h k = tt
 
-    pub listed-room : ran .verdict ≡ Accepted → {room : ℕ} → 65600 ≤ room → length (linesOf 0 bytes (readTrace trace)) + 68 ≤ room
-    listed-room v r = gave-room (remaining trace 0) small lent bytes t ran v (readTrace trace) gave r
+  told : Told (judgedOf trace)
+  unfolding judgedOf
+  told =
+      by-test Told (ltb 65536 (length trace)) _ _ (λ _. tt)
+      (λ b. told-small (readTrace trace) refl (ltb-false 65536 (length trace) b) (short trace))
 
-    pub listed-accepted : ran .verdict ≡ Accepted → (out : List ℕ) {n : ℕ} {after : List ℕ}
-        → written n after ≡ writtenOf out 0 (headerLine ++ linesOf 0 bytes (readTrace trace) ++ totalLine (ran .count) (ran .total))
-        → outcome (record { verdict = Accepted; len = n; timing = ran .timing }) after ≡ outcomeBy (judgedOf trace) out t
-    listed-accepted v out d = rw judged-same (gave-accepted (remaining trace 0) small lent bytes t ran v (readTrace trace) gave out d)
+  -- what a run of it gave
+  module _ (lent bytes : List ℕ) (t : Oep060Timing) (ran : Ran) where
+    abbrev Gave : Trace → Type 0
+    Gave said = run.outcome ran bytes ≡ run.outcomeOf said lent t
+
+    lines : (es : List Event) → Raws es → Gave (events es) → linesRead 0 bytes es ≡ linesFrom 0 (opcodesOf es) (costsOf t es)
+    unfolding putAt
+    lines es w e = lines-costs 0 bytes _ (stateOf (seenOf t)) es w (ap (λ (o : run.Outcome). o .bytes) e)
+
+    ready : (said : Trace) → Told said → Gave said → {room : ℕ} → 13104 ≤ length bytes → 65600 ≤ room → Ready (ran .verdict) trace bytes room
+    ready (events es) k e big r =
+        let most = lines-most 0 (stateOf (seenOf t)) es (k .1 .1) (omega (arith, k .1 .0)) in
+        rw (ap (λ (o : run.Outcome). o .ran .verdict) e, k .0)
+        (omega (arith, k .1 .0), omega (arith, k .1 .0, ap length (lines es (k .1 .1) e)))
+    ready (refused refusal) k e big r = rw (ap (λ (o : run.Outcome). o .ran .verdict) e) (omega arith)
+
+    whole : (said : Trace) → Told said → Gave said → (out : List ℕ) {n : ℕ} {after : List ℕ}
+        → written n after ≡ writtenOf out 0 (printed (ran .verdict) trace bytes (ran .count) (ran .total))
+        → outcome (record { verdict = ran .verdict; len = n; timing = ran .timing }) after ≡ outcomeBy said out t
+    whole (events es) k e out d =
+        let v = ap (λ (o : run.Outcome). o .ran .verdict) e in
+        let c = ap (λ (o : run.Outcome). o .ran .count) e in
+        let s = ap (λ (o : run.Outcome). o .ran .total) e in
+        rw (v, ap (λ (o : run.Outcome). o .ran .timing) e) (listed (events es) out t (rw (v, k .0, lines es (k .1 .1) e, c, s) at d))
+    whole (refused refusal) k e out d =
+        let v = ap (λ (o : run.Outcome). o .ran .verdict) e in
+        rw (v, ap (λ (o : run.Outcome). o .ran .timing) e) (listed (refused refusal) out t (rw v at d))
+
+  module _ (lent : List ℕ) {bytes : List ℕ} (t : Oep060Timing) {ran : Ran} (e : run.outcome ran bytes ≡ run.outcomeOf (judgedOf trace) lent t) where
+    pub listed-ready : {room : ℕ} → 13104 ≤ length bytes → 65600 ≤ room → Ready (ran .verdict) trace bytes room
+    listed-ready big r = ready lent bytes t ran (judgedOf trace) told e big r
+
+    pub listed-whole : (out : List ℕ) {n : ℕ} {after : List ℕ}
+        → written n after ≡ writtenOf out 0 (printed (ran .verdict) trace bytes (ran .count) (ran .total))
+        → outcome (record { verdict = ran .verdict; len = n; timing = ran .timing }) after ≡ outcomeBy (judgedOf trace) out t
+    listed-whole out d = whole lent bytes t ran (judgedOf trace) told e out d

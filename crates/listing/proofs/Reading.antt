@@ -14,18 +14,18 @@ use borrow.Author.Tests.{ltb-true, ltb-false}
 use Rattle.little_endian.specs.Numbers.{signedOf}
 use Rattle.step.specs.declared.Event.{Event}
 use Rattle.step.specs.declared.Event.the-variants.{Retired, Broken, ClearedAll, ClearedUser}
-use Rattle.record.specs.declared.Kind.{Kind}
-use Rattle.record.specs.declared.Kind.the-variants.{Retirement, Break, ClearAll, ClearUser}
-use Rattle.record.specs.declared.KindRead.{KindRead}
-use Rattle.record.specs.declared.KindRead.the-variants.{Known, Unknown}
+use Rattle.kinds.specs.declared.Kind.{Kind}
+use Rattle.kinds.specs.declared.Kind.the-variants.{Retirement, Break, ClearAll, ClearUser}
+use Rattle.kinds.specs.declared.KindRead.{KindRead}
+use Rattle.kinds.specs.declared.KindRead.the-variants.{Known, Unknown}
 use Rattle.record.specs.declared.Read.{Read}
 use Rattle.record.specs.declared.Read.the-variants.{Got, Bad, End}
-use Rattle.record.specs.Kinds.{payloadLength, kindOf}
+use Rattle.kinds.specs.Kinds.{payloadLength, kindOf}
 use Rattle.record.specs.Record.{remaining, lengthAt, kindAt, nextPlace, eventAt, highFlag, recordAt, bodyAt, readAt, retirementAt}
-use Rattle.trace.specs.Trace.{Trace, events, refused, ahead, goOn, readIn, readFrom, readTrace, countOf}
+use Rattle.records.specs.Trace.{Trace, events, refused, ahead, goOn, readIn, readFrom, readTrace, countOf}
 use Rattle.record.proofs.Choices.{by-test}
-use Rattle.trace.proofs.Walking.{got-within}
-use Rattle.trace.proofs.Counting.{count-cons, count-one}
+use Rattle.records.proofs.Walking.{got-within}
+use Rattle.records.proofs.Counting.{count-cons, count-one}
 
 signed-fits : (x : ℕ) → SFits w32 (signedOf x)
 unfolding signedOf

@@ -13,7 +13,7 @@ use Rattle.text.specs.Written.{written, writtenOf}
 use Rattle.text.proofs.Writing.{written-within}
 use Rattle.step.specs.declared.Event.{Event}
 use Rattle.step.specs.declared.Oep060Timing.{Oep060Timing}
-use Rattle.trace.specs.Trace.{Trace, events}
+use Rattle.records.specs.Trace.{Trace, events}
 use Rattle.listing.specs.declared.Listed.{Listed}
 use Rattle.listing.specs.Listing.{Outcome, judgedOf, tableOf, textBy, outcome, outcomeBy}
 use Rattle.listing.proofs.Listing.{judged-large, text-most}

@@ -1,8 +1,6 @@
 -- Document 01, part 6: what the cost lister prints.
 --
---   Lines     ==  the lines of the text: refusals, the header, a line for each retirement, the total
 --   Listing   ==  the cost lister's whole output
 --   Inner     ==  what the functions inside answer; nothing of it enters the promise of `list_trace`
-pub mod Lines
 pub mod Listing
 pub mod Inner

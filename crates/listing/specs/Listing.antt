@@ -23,13 +23,13 @@ use Rattle.step.specs.declared.Event.{Event}
 use Rattle.step.specs.declared.Oep060Timing.{Oep060Timing}
 use Rattle.step.specs.Events.{total}
 use Rattle.step.specs.Step.{seenOf}
-use Rattle.outcome.specs.declared.Refusal.the-variants.{Oversized}
-use Rattle.outcome.specs.declared.Verdict.{Verdict}
-use Rattle.outcome.specs.declared.Verdict.the-variants.{Accepted, Refused}
-use Rattle.trace.specs.Trace.{Trace, events, refused, readTrace, countOf}
+use Rattle.refusals.specs.declared.Refusal.the-variants.{Oversized}
+use Rattle.refusals.specs.declared.Verdict.{Verdict}
+use Rattle.refusals.specs.declared.Verdict.the-variants.{Accepted, Refused}
+use Rattle.records.specs.Trace.{Trace, events, refused, readTrace, countOf}
 use Rattle.trace.specs.Run.{costsOf, nextOf}
 use Rattle.listing.specs.declared.Listed.{Listed}
-use Rattle.listing.specs.Lines.{refusalLine, headerLine, totalLine, opcodesOf, linesFrom}
+use Rattle.lines.specs.Lines.{refusalLine, headerLine, totalLine, opcodesOf, linesFrom}
 
 unfoldable pub judgedOf : List ℕ → Trace
 judgedOf trace = cond (ltb 65536 (length trace)) (refused Oversized) (readTrace trace)

@@ -6,8 +6,9 @@ use Prim.Native.Nat.{ℕ, _<_, _≤_}
 use native.Mathlib.Nat.{eq-or-lt-of-le}
 use native.Mathlib.Omega.{arith}
 use borrow.Author.Tests.{le-leb}
-use Rattle.masks.specs.declared.RegMasks060.{RegMasks060}
-use Rattle.masks.specs.Masks.{groupSets, moveSets, dyadicSets, maskPair}
+use Rattle.registers.specs.declared.RegMasks060.{RegMasks060}
+use Rattle.registers.specs.Operands.{moveSets, maskPair}
+use Rattle.masks.specs.Masks.{groupSets, dyadicSets}
 
 pub group-is : (op g n : ℕ) {r : RegMasks060} → g ≡ n → r ≡ maskPair (groupSets n op) → r ≡ maskPair (groupSets g op)
 group-is op g n h p = rw h p

@@ -1,6 +1,4 @@
 -- Document 01, part 3: masks.
 --
---   Registers   ==  sets of registers, and the mask of a set
---   Masks       ==  what each instruction uses and defines, and its two masks
-pub mod Registers
+--   Masks   ==  what each instruction uses and defines, and its two masks
 pub mod Masks

@@ -4,7 +4,7 @@ ghost use mathlib.Core.Bool.{true, false, _&&_};
 ghost use Prim.Native.Nat.{_*_, _<_};
 ghost use Rattle.bits.specs.Words.{num};
 ghost use Rattle.bits.specs.Fields.{modeOf, regOf, dstModeOf, dstRegOf};
-ghost use Rattle.class_word.specs.Word.{info};
+ghost use Rattle.class_word.specs.Word.{newOf, info};
 ghost use Rattle.operand.specs.Entry.{isMemory, isIndexed, ea, accessFlags, alu, entryWord, unclassified};
 use bits::dst_mode_of;
 use bits::dst_reg_of;
@@ -91,4 +91,11 @@ pub fn unclassified() -> Info060
     ensures { λ r. ⌜ r ≡ info (entryWord unclassified) ⌝ }
 {
     Info060::new(OepClass::PoepOnly, 1, F_UNCLASSIFIED | F_VARIABLE)
+}
+
+// An entry of class 1.
+pub fn poep_only(cycles: u16, flags: u16) -> Info060
+    ensures { λ r. ⌜ r ≡ info (newOf 1 cycles flags) ⌝ }
+{
+    Info060::new(OepClass::PoepOnly, cycles, flags)
 }

@@ -3,8 +3,8 @@
 --   refusedOf r t   ==  a run refused with r from the state t     "A refused run or batch returns count 0, total 0 and the state it was given"
 use Rattle.step.specs.declared.Oep060Timing.{Oep060Timing}
 use Rattle.step.specs.Step.{seenOf}
-use Rattle.outcome.specs.declared.Refusal.{Refusal}
-use Rattle.outcome.specs.declared.Verdict.the-variants.{Refused}
+use Rattle.refusals.specs.declared.Refusal.{Refusal}
+use Rattle.refusals.specs.declared.Verdict.the-variants.{Refused}
 use Rattle.outcome.specs.declared.Ran.{Ran}
 
 abbrev pub refusedOf : Refusal → Oep060Timing → Ran

@@ -6,9 +6,9 @@ use lib.Dec.{eqb}
 use Rattle.class_word.specs.Word.{has, classOf, BRANCH}
 use Rattle.dispatch.specs.declared.Instruction.{Instruction}
 use Rattle.dispatch.specs.declared.Controls.{Controls}
-use Rattle.dispatch.specs.declared.Window.{Window}
-use Rattle.dispatch.specs.Windows.{shut}
-use Rattle.pairing.specs.declared.Answer.{Answer}
+use Rattle.window.specs.declared.Window.{Window}
+use Rattle.window.specs.Windows.{shut}
+use Rattle.branching.specs.declared.Answer.{Answer}
 use Rattle.pairing.specs.Retiring.{Kind, branch, flow, neither, otherKind, kindOf}
 use Rattle.pairing.specs.Cost.{pairs, asHead, headOf, costBy, windowBy}
 

@@ -1,5 +1,3 @@
 pub mod Largest
-pub mod Sound
-pub mod Zero
 pub mod Seen
 pub mod Led

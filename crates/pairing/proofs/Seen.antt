@@ -7,12 +7,13 @@ use lib.Dec.{eqb}
 use Rattle.class_word.specs.Word.{has, classOf, DBCC}
 use Rattle.dispatch.specs.declared.Instruction.{Instruction}
 use Rattle.dispatch.specs.declared.Controls.{Controls}
-use Rattle.dispatch.specs.declared.Window.{Window}
-use Rattle.pairing.specs.declared.Answer.{Answer}
-use Rattle.pairing.specs.Retiring.{retiring, takenOf, Kind, branch, flow, neither, kindOf}
-use Rattle.dispatch.specs.Windows.{shut, seen}
+use Rattle.window.specs.declared.Window.{Window}
+use Rattle.branching.specs.declared.Answer.{Answer}
+use Rattle.pairing.specs.Retiring.{retiring, Kind, branch, flow, neither, kindOf}
+use Rattle.window.specs.Windows.{shut, seen}
 use Rattle.dispatch.specs.Dispatch.{passes}
-use Rattle.pairing.specs.Cost.{branchCost, baseOf, pairs, headOf, costBy, windowBy, costOf, windowOf}
+use Rattle.branching.specs.Branch.{takenOf, branchCost}
+use Rattle.pairing.specs.Cost.{baseOf, pairs, headOf, costBy, windowBy, costOf, windowOf}
 
 module _ (i : Instruction) (k : Controls) (w : Window) (a : Answer) where
   cost-by : (x : Kind) (o : Bool) → w .opened ≡ o → costBy x i k (cond o w shut) a ≡ costBy x i k w a

@@ -1,9 +1,5 @@
--- Document 01, "One retirement": the cost and the next window. The Rust: cycles_060 past the lookup, branch_cost_060.
+-- Document 01, "One retirement": the cost and the next window. The Rust: cycles_060 past the lookup.
 --
---   staticCost dbcc taken              ==  a branch of which the cache was not asked   "DBcc 2 taken, 3 expired; others 7 taken, 1 not"
---   askedCost predicted taken opened   ==  a branch of which the cache was asked       "predicted and taken costs 0 if the window was open, else 1;
---                                                                                      neither costs 1; a mismatch costs 7"
---   branchCost dbcc taken opened a     ==  the one or the other, by the cache's answer
 --   flowCost raw                       ==  another change of flow                      "the larger of the fallback and 5"
 --   plainOf word raw                   ==  "the fallback if VARIABLE or UNCLASSIFIED, or the packed clocks"
 --   baseOf i k                         ==  the base                                    "plus 1 if indexed"
@@ -17,36 +13,21 @@
 --
 -- In `costBy` the base less 1 is 0 where the base is 0, as the Rust's `.max(0)` has it.
 use Prim.Native.Nat.{ℕ, _+_, _-_, max}
-use mathlib.Core.Bool.{Bool, true, false, cond, _&&_, _||_}
+use mathlib.Core.Bool.{Bool, true, cond, _&&_, _||_}
 use lib.Dec.{eqb}
 use lib.IntN.{ℤ}
 use Rattle.class_word.specs.Word.{has, classOf, clocksOf, clocks, DBCC, VARIABLE, UNCLASSIFIED, «EA_INDEXED», «DEFINES_CCR»}
 use Rattle.raw.specs.Raw.{fallbackOf}
-use Rattle.pairing.specs.Retiring.{Retiring, takenOf, predictsTaken, Kind, branch, flow, neither, kindOf}
-use Rattle.dispatch.specs.Windows.{shut}
+use Rattle.pairing.specs.Retiring.{Retiring, Kind, branch, flow, neither, kindOf}
+use Rattle.window.specs.Windows.{shut}
 use Rattle.dispatch.specs.Dispatch.{memory, passes}
 use Rattle.dispatch.specs.declared.Instruction.{Instruction}
 use Rattle.dispatch.specs.declared.Controls.{Controls}
-use Rattle.dispatch.specs.declared.Window.{Window}
-use Rattle.pairing.specs.declared.Answer.{Answer}
-use Rattle.pairing.specs.declared.Answer.the-variants.{NotConsulted, Miss, PredictedNotTaken, PredictedTaken}
+use Rattle.window.specs.declared.Window.{Window}
+use Rattle.branching.specs.declared.Answer.{Answer}
+use Rattle.branching.specs.Branch.{takenOf, branchCost}
 use Rattle.pairing.specs.declared.Charged.{Charged}
 use Rattle.pairing.specs.declared.Retired.{Retired}
-
-abbrev pub staticCost : Bool → Bool → ℕ
-staticCost dbcc taken = cond dbcc (cond taken 2 3) (cond taken 7 1)
-
-abbrev pub askedCost : Bool → Bool → Bool → ℕ
-askedCost true true opened = cond opened 0 1
-askedCost true false opened = 7
-askedCost false true opened = 7
-askedCost false false opened = 1
-
-abbrev pub branchCost : Bool → Bool → Bool → Answer → ℕ
-branchCost dbcc taken opened NotConsulted = staticCost dbcc taken
-branchCost dbcc taken opened Miss = askedCost (predictsTaken Miss) taken opened
-branchCost dbcc taken opened PredictedNotTaken = askedCost (predictsTaken PredictedNotTaken) taken opened
-branchCost dbcc taken opened PredictedTaken = askedCost (predictsTaken PredictedTaken) taken opened
 
 abbrev pub flowCost : ℤ → ℕ
 flowCost raw = max (fallbackOf raw) 5

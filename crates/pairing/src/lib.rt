@@ -1,15 +1,15 @@
-// Part 5 of document 01: the branch's cost, and one retirement.
+// Part 5 of document 01: one retirement.
 ghost use mathlib.Core.Path.{_≡_};
 ghost use mathlib.Core.Bool.{not};
 ghost use Prim.Native.Nat.{_-_};
 ghost use lib.Dec.{eqb};
-ghost use Rattle.class_word.specs.Word.{clocks, classOf, has, DBCC};
-ghost use Rattle.pairing.specs.Retiring.{retiring, takenOf, otherKind};
-ghost use Rattle.pairing.specs.Cost.{branchCost, flowCost, plainOf, baseOf, pairs, asHead, chargedBy, retire};
-ghost use Rattle.pairing.specs.declared.Answer.the-variants.{NotConsulted};
+ghost use Rattle.class_word.specs.Word.{clocks, classOf};
+ghost use Rattle.pairing.specs.Retiring.{retiring, otherKind};
+ghost use Rattle.pairing.specs.Cost.{flowCost, plainOf, baseOf, pairs, asHead, chargedBy, retire};
+ghost use Rattle.branching.specs.declared.Answer.the-variants.{NotConsulted};
+use branching::Answer;
 use class_word::Clocks;
 use class_word::F_BRANCH;
-use class_word::F_DBCC;
 use class_word::F_DEFINES_CCR;
 use class_word::F_EA_INDEXED;
 use class_word::F_UNCLASSIFIED;
@@ -17,28 +17,10 @@ use class_word::F_VARIABLE;
 use class_word::Info060;
 use dispatch::Controls;
 use dispatch::Instruction;
-use dispatch::Window;
 use raw::RawCount;
-
-pub const CYC_060_BRANCH_TAKEN: u32 = 7;
-
-pub const CYC_060_BRANCH_NOT_TAKEN: u32 = 1;
-
-pub const CYC_060_DBCC_TAKEN: u32 = 2;
-
-pub const CYC_060_DBCC_EXPIRED: u32 = 3;
+use window::Window;
 
 pub const CYC_060_FLOW_MIN: u32 = 5;
-
-pub const CYC_060_MISPREDICT: u32 = 7;
-
-// What the branch cache said of a branch before it retired.
-pub enum Answer {
-    NotConsulted,
-    Miss,
-    PredictedNotTaken,
-    PredictedTaken,
-}
 
 // What one retirement costs, and whether its instruction becomes the head.
 pub struct Charged {
@@ -50,17 +32,6 @@ pub struct Charged {
 pub struct Retired {
     pub cost: Clocks,
     pub window: Window,
-}
-
-// Whether a branch is taken; DBcc does not raise `flowed`, so it is told by where it went.
-pub fn taken(i: Instruction, k: Controls) -> bool
-    ensures { λ r. ⌜ r ≡ takenOf i k ⌝ }
-{
-    let fall_through = std::num::wrapping_add_u32(k.ppc, 4);
-    if i.word.has(F_DBCC) {
-        return k.pc != fall_through;
-    }
-    k.flowed
 }
 
 // The larger of the fallback and the refill's floor.
@@ -138,13 +109,6 @@ fn less_one(cycles: Clocks) -> Clocks
     }
 }
 
-// What a branch costs; the window is shut behind it.
-pub fn charge_branch(i: Instruction, k: Controls, opened: bool, answer: Answer) -> Clocks
-    ensures { λ r. ⌜ r ≡ clocks (branchCost (has (i .word .0) DBCC) (takenOf i k) opened answer) ⌝ }
-{
-    branch_cost_060(i.word.has(F_DBCC), taken(i, k), opened, answer)
-}
-
 // What any other instruction costs, and whether it becomes the head.
 pub fn charge_other(i: Instruction, k: Controls, w: Window) -> Charged
     ensures { λ r. ⌜ r ≡ chargedBy (otherKind k) i k w NotConsulted ⌝ }
@@ -171,7 +135,7 @@ pub fn retire(i: Instruction, k: Controls, w: Window, answer: Answer) -> Retired
 {
     if i.word.has(F_BRANCH) {
         return Retired {
-            cost: charge_branch(i, k, w.opened, answer),
+            cost: branching::charge_branch(i, k, w.opened, answer),
             window: Window::shut(),
         };
     }
@@ -186,49 +150,5 @@ pub fn retire(i: Instruction, k: Controls, w: Window, answer: Answer) -> Retired
     Retired {
         cost,
         window: Window::shut(),
-    }
-}
-
-// The answer stands for EBC and the fetch too: with either off, the cache is not consulted.
-pub fn branch_cost_060(is_dbcc: bool, taken: bool, opened: bool, answer: Answer) -> Clocks
-    ensures { λ r. ⌜ r ≡ clocks (branchCost «is_dbcc» taken opened answer) ⌝ }
-{
-    match answer {
-        Answer::NotConsulted => {
-            if is_dbcc {
-                if taken {
-                    Clocks(CYC_060_DBCC_TAKEN)
-                } else {
-                    Clocks(CYC_060_DBCC_EXPIRED)
-                }
-            } else {
-                if taken {
-                    Clocks(CYC_060_BRANCH_TAKEN)
-                } else {
-                    Clocks(CYC_060_BRANCH_NOT_TAKEN)
-                }
-            }
-        }
-        Answer::Miss => {
-            if taken {
-                Clocks(CYC_060_MISPREDICT)
-            } else {
-                Clocks(1)
-            }
-        }
-        Answer::PredictedNotTaken => {
-            if taken {
-                Clocks(CYC_060_MISPREDICT)
-            } else {
-                Clocks(1)
-            }
-        }
-        Answer::PredictedTaken => {
-            if taken {
-                if opened { Clocks(0) } else { Clocks(1) }
-            } else {
-                Clocks(CYC_060_MISPREDICT)
-            }
-        }
     }
 }

@@ -8,8 +8,9 @@ use native.Mathlib.Omega.{arith}
 use Rattle.class_word.specs.declared.Info060.{Info060}
 use Rattle.class_word.specs.Word.{info}
 use Rattle.classifier.specs.Classify.{classifyOf}
-use Rattle.masks.specs.declared.RegMasks060.{RegMasks060}
-use Rattle.masks.specs.Masks.{undecoded, groupSets, maskPair, masksOf}
+use Rattle.registers.specs.declared.RegMasks060.{RegMasks060}
+use Rattle.registers.specs.Operands.{undecoded, maskPair}
+use Rattle.masks.specs.Masks.{groupSets, masksOf}
 use Rattle.masks.proofs.Groups.{group-is}
 use Rattle.dispatch.specs.declared.Instruction.{Instruction}
 use Rattle.profile.specs.Profile.{joinedOf, crateProfile}

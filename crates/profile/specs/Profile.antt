@@ -6,7 +6,7 @@ use Prim.Native.Nat.{ℕ}
 use Rattle.class_word.specs.declared.Info060.{Info060}
 use Rattle.class_word.specs.Word.{info}
 use Rattle.classifier.specs.Classify.{classifyOf}
-use Rattle.masks.specs.declared.RegMasks060.{RegMasks060}
+use Rattle.registers.specs.declared.RegMasks060.{RegMasks060}
 use Rattle.masks.specs.Masks.{masksOf}
 use Rattle.dispatch.specs.declared.Instruction.{Instruction}
 

@@ -12,16 +12,17 @@ use Rattle.step.specs.declared.Retirement.{Retirement}
 use Rattle.step.specs.Events.{costs}
 use Rattle.step.specs.Crate.{crateBoard}
 use Rattle.step.specs.Step.{stateOf, seenOf}
-use Rattle.outcome.specs.declared.Verdict.the-variants.{Accepted}
+use Rattle.refusals.specs.declared.Verdict.the-variants.{Accepted}
 use Rattle.outcome.specs.declared.Ran.{Ran}
 use Rattle.little_endian.specs.Numbers.{putAt}
-use Rattle.trace.specs.Trace.{countOf}
+use Rattle.records.specs.Trace.{countOf}
 use Rattle.trace.specs.Run.{Outcome, costBytes, costsOf, nextOf, runTraceOf}
-use Rattle.trace.specs.Table.{Accepts}
+use Rattle.records.specs.Table.{Accepts}
 use Rattle.trace.proofs.Refused.{run-accepted}
 use Rattle.trace.proofs.Bounds.{accepted-few}
 use Rattle.trace.proofs.Parts.{costs-length}
-use Rattle.batch.specs.Batch.{eventsOf, judgeOf, acceptedOf, outcomeBy, batchOf}
+use Rattle.turns.specs.Judge.{judgeOf}
+use Rattle.batch.specs.Batch.{eventsOf, acceptedOf, outcomeBy, batchOf}
 use Rattle.batch.proofs.Refusals.{batch-gives-1, batch-gives-7, batch-accepts}
 use Rattle.promises.specs.Batches.{EveryBatch}
 

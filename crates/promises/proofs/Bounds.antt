@@ -8,12 +8,12 @@ use native.Mathlib.Omega.{arith}
 use lib.ListN.{length}
 use Rattle.bits.specs.Words.{num}
 use Rattle.bits.proofs.Words.{num-small}
-use Rattle.dispatch.specs.declared.Window.{Window}
+use Rattle.window.specs.declared.Window.{Window}
 use Rattle.pairing.specs.Retiring.{Retiring}
-use Rattle.dispatch.specs.Windows.{shut, seen}
+use Rattle.window.specs.Windows.{shut, seen}
 use Rattle.pairing.specs.Cost.{costOf, windowOf}
-use Rattle.pairing.specs.Free.{sound}
-use Rattle.pairing.proofs.Zero.{zero-shuts}
+use Rattle.free.specs.Free.{sound}
+use Rattle.free.proofs.Zero.{zero-shuts}
 use Rattle.step.specs.declared.Event.{Event}
 use Rattle.step.specs.declared.Event.the-variants.{Retired, Broken, ClearedAll, ClearedUser}
 use Rattle.step.specs.Board.{Board}

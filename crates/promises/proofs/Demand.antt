@@ -6,11 +6,12 @@ use Prim.Native.Nat.{ℕ}
 use lib.Dec.{eqb, leb}
 use borrow.Author.Tests.{eqb-true, eq-eqb, le-leb}
 use Rattle.class_word.specs.Word.{classOf, clocksOf, has, BRANCH}
-use Rattle.classifier.specs.Classify.{classifyOf, group7}
-use Rattle.masks.specs.Registers.{maskOfRegs}
+use Rattle.low_groups.specs.LowGroups.{group7}
+use Rattle.classifier.specs.Classify.{classifyOf}
+use Rattle.registers.specs.Registers.{maskOfRegs}
 use Rattle.masks.specs.Masks.{setsOf}
 use Rattle.branch_cache.specs.Cache.{freshOf}
-use Rattle.pairing.specs.Free.{sound}
+use Rattle.free.specs.Free.{sound}
 use Rattle.step.specs.Board.{CacheRule, Board}
 use Rattle.profile.specs.Profile.{crateProfile}
 use Rattle.step.specs.Crate.{crateCache, crateBoard}

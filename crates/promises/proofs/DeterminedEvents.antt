@@ -6,45 +6,45 @@ use denote.Ref.{now}
 use Rattle.step.specs.Crate.{cacheAt}
 use Rattle.step.specs.Step.{asked}
 use Rattle.promises.specs.Determined.{Determined, result}
-use Rattle.branch_cache.proofs.Slot.hit.Reads as branch-cache-slot-hit
-use Rattle.branch_cache.proofs.Slot.predict.Reads as branch-cache-slot-predict
-use Rattle.branch_cache.proofs.Slot.update.Reads as branch-cache-slot-update
+use Rattle.slot.proofs.Slot.hit.Reads as slot-slot-hit
+use Rattle.slot.proofs.Slot.predict.Reads as slot-slot-predict
+use Rattle.slot.proofs.Slot.update.Reads as slot-slot-update
 use Rattle.branch_cache.proofs.BranchCache060.fresh.Reads as branch-cache-branchcache060-fresh
 use Rattle.branch_cache.proofs.BranchCache060.slot.Reads as branch-cache-branchcache060-slot
 use Rattle.branch_cache.proofs.BranchCache060.clear_all.Reads as branch-cache-branchcache060-clear-all
 use Rattle.branch_cache.proofs.BranchCache060.clear_user.Reads as branch-cache-branchcache060-clear-user
 use Rattle.branch_cache.proofs.BranchCache060.predict.Reads as branch-cache-branchcache060-predict
 use Rattle.branch_cache.proofs.BranchCache060.update.Reads as branch-cache-branchcache060-update
-use Rattle.dispatch.proofs.Window.shut.Reads as dispatch-window-shut
-use Rattle.dispatch.proofs.Window.seen.Reads as dispatch-window-seen
+use Rattle.window.proofs.Window.shut.Reads as window-window-shut
+use Rattle.window.proofs.Window.seen.Reads as window-window-seen
 use Rattle.raw.proofs.fallback_cycles.Reads as raw-fallback-cycles
-use Rattle.pairing.proofs.taken.Reads as pairing-taken
+use Rattle.branching.proofs.taken.Reads as branching-taken
 use Rattle.dispatch.proofs.memory.Reads as dispatch-memory
 use Rattle.dispatch.proofs.soep_dispatch_test.Reads as dispatch-soep-dispatch-test
-use Rattle.pairing.proofs.branch_cost_060.Reads as pairing-branch-cost-060
-use Rattle.pairing.proofs.charge_branch.Reads as pairing-charge-branch
+use Rattle.branching.proofs.branch_cost_060.Reads as branching-branch-cost-060
+use Rattle.branching.proofs.charge_branch.Reads as branching-charge-branch
 use Rattle.pairing.proofs.charge_other.Reads as pairing-charge-other
 use Rattle.pairing.proofs.retire.Reads as pairing-retire
-use Rattle.step.proofs.cycles_060.Reads as step-cycles-060
+use Rattle.cycles.proofs.cycles_060.Reads as cycles-cycles-060
 use Rattle.step.proofs.Oep060Timing.fresh.Reads as step-oep060timing-fresh
 use Rattle.step.proofs.Oep060Timing.seen.Reads as step-oep060timing-seen
 use Rattle.step.proofs.Oep060Timing.broken.Reads as step-oep060timing-broken
 use Rattle.step.proofs.Oep060Timing.clear_all.Reads as step-oep060timing-clear-all
 use Rattle.step.proofs.Oep060Timing.clear_user.Reads as step-oep060timing-clear-user
-use Rattle.outcome.proofs.number.Reads as outcome-number
-use Rattle.outcome.proofs.place.Reads as outcome-place
+use Rattle.refusals.proofs.number.Reads as refusals-number
+use Rattle.refusals.proofs.place.Reads as refusals-place
 use Rattle.outcome.proofs.refused.Reads as outcome-refused
-use Rattle.step.proofs.ask_in_place.Reads as step-ask-in-place
+use Rattle.asking.proofs.ask_in_place.Reads as asking-ask-in-place
 
 module _ (κs : Lifetimes.Lfts 0) where
-  pub branch-cache-slot-hit-determined : Determined result (branch-cache-slot-hit.Post κs)
-  branch-cache-slot-hit-determined i r r′ x x′ p q = p ∙ sym q
+  pub slot-slot-hit-determined : Determined result (slot-slot-hit.Post κs)
+  slot-slot-hit-determined i r r′ x x′ p q = p ∙ sym q
 
-  pub branch-cache-slot-predict-determined : Determined result (branch-cache-slot-predict.Post κs)
-  branch-cache-slot-predict-determined i r r′ x x′ p q = p ∙ sym q
+  pub slot-slot-predict-determined : Determined result (slot-slot-predict.Post κs)
+  slot-slot-predict-determined i r r′ x x′ p q = p ∙ sym q
 
-  pub branch-cache-slot-update-determined : Determined result (branch-cache-slot-update.Post κs)
-  branch-cache-slot-update-determined i r r′ x x′ p q = p ∙ sym q
+  pub slot-slot-update-determined : Determined result (slot-slot-update.Post κs)
+  slot-slot-update-determined i r r′ x x′ p q = p ∙ sym q
 
   pub branch-cache-branchcache060-fresh-determined : Determined result (branch-cache-branchcache060-fresh.Post κs)
   branch-cache-branchcache060-fresh-determined i r r′ x x′ p q = p ∙ sym q
@@ -64,17 +64,17 @@ module _ (κs : Lifetimes.Lfts 0) where
   pub branch-cache-branchcache060-update-determined : Determined result (branch-cache-branchcache060-update.Post κs)
   branch-cache-branchcache060-update-determined i r r′ x x′ p q = p ∙ sym q
 
-  pub dispatch-window-shut-determined : Determined result (dispatch-window-shut.Post κs)
-  dispatch-window-shut-determined i r r′ x x′ p q = p ∙ sym q
+  pub window-window-shut-determined : Determined result (window-window-shut.Post κs)
+  window-window-shut-determined i r r′ x x′ p q = p ∙ sym q
 
-  pub dispatch-window-seen-determined : Determined result (dispatch-window-seen.Post κs)
-  dispatch-window-seen-determined i r r′ x x′ p q = p ∙ sym q
+  pub window-window-seen-determined : Determined result (window-window-seen.Post κs)
+  window-window-seen-determined i r r′ x x′ p q = p ∙ sym q
 
   pub raw-fallback-cycles-determined : Determined result (raw-fallback-cycles.Post κs)
   raw-fallback-cycles-determined i r r′ x x′ p q = p ∙ sym q
 
-  pub pairing-taken-determined : Determined result (pairing-taken.Post κs)
-  pairing-taken-determined i r r′ x x′ p q = p ∙ sym q
+  pub branching-taken-determined : Determined result (branching-taken.Post κs)
+  branching-taken-determined i r r′ x x′ p q = p ∙ sym q
 
   pub dispatch-memory-determined : Determined result (dispatch-memory.Post κs)
   dispatch-memory-determined i r r′ x x′ p q = p ∙ sym q
@@ -82,11 +82,11 @@ module _ (κs : Lifetimes.Lfts 0) where
   pub dispatch-soep-dispatch-test-determined : Determined result (dispatch-soep-dispatch-test.Post κs)
   dispatch-soep-dispatch-test-determined i r r′ x x′ p q = p ∙ sym q
 
-  pub pairing-branch-cost-060-determined : Determined result (pairing-branch-cost-060.Post κs)
-  pairing-branch-cost-060-determined i r r′ x x′ p q = p ∙ sym q
+  pub branching-branch-cost-060-determined : Determined result (branching-branch-cost-060.Post κs)
+  branching-branch-cost-060-determined i r r′ x x′ p q = p ∙ sym q
 
-  pub pairing-charge-branch-determined : Determined result (pairing-charge-branch.Post κs)
-  pairing-charge-branch-determined i r r′ x x′ p q = p ∙ sym q
+  pub branching-charge-branch-determined : Determined result (branching-charge-branch.Post κs)
+  branching-charge-branch-determined i r r′ x x′ p q = p ∙ sym q
 
   pub pairing-charge-other-determined : Determined result (pairing-charge-other.Post κs)
   pairing-charge-other-determined i r r′ x x′ p q = p ∙ sym q
@@ -94,8 +94,8 @@ module _ (κs : Lifetimes.Lfts 0) where
   pub pairing-retire-determined : Determined result (pairing-retire.Post κs)
   pairing-retire-determined i r r′ x x′ p q = p ∙ sym q
 
-  pub step-cycles-060-determined : Determined result (step-cycles-060.Post κs)
-  step-cycles-060-determined i r r′ x x′ p q = p ∙ sym q
+  pub cycles-cycles-060-determined : Determined result (cycles-cycles-060.Post κs)
+  cycles-cycles-060-determined i r r′ x x′ p q = p ∙ sym q
 
   pub step-oep060timing-fresh-determined : Determined result (step-oep060timing-fresh.Post κs)
   step-oep060timing-fresh-determined i r r′ x x′ p q = p ∙ sym q
@@ -112,16 +112,16 @@ module _ (κs : Lifetimes.Lfts 0) where
   pub step-oep060timing-clear-user-determined : Determined result (step-oep060timing-clear-user.Post κs)
   step-oep060timing-clear-user-determined i r r′ x x′ p q = p ∙ sym q
 
-  pub outcome-number-determined : Determined result (outcome-number.Post κs)
-  outcome-number-determined i r r′ x x′ p q = p ∙ sym q
+  pub refusals-number-determined : Determined result (refusals-number.Post κs)
+  refusals-number-determined i r r′ x x′ p q = p ∙ sym q
 
-  pub outcome-place-determined : Determined result (outcome-place.Post κs)
-  outcome-place-determined i r r′ x x′ p q = p ∙ sym q
+  pub refusals-place-determined : Determined result (refusals-place.Post κs)
+  refusals-place-determined i r r′ x x′ p q = p ∙ sym q
 
   pub outcome-refused-determined : Determined result (outcome-refused.Post κs)
   outcome-refused-determined i r r′ x x′ p q = p ∙ sym q
 
 -- the lent arrays too
 module _ (κs : Lifetimes.Lfts 2) where
-  pub step-ask-in-place-determined : Determined (λ r x. asked r (cacheAt (now (x .0)) (now (x .1 .0)))) (step-ask-in-place.Post κs)
-  step-ask-in-place-determined i r r′ x x′ p q = p ∙ sym q
+  pub asking-ask-in-place-determined : Determined (λ r x. asked r (cacheAt (now (x .0)) (now (x .1 .0)))) (asking-ask-in-place.Post κs)
+  asking-ask-in-place-determined i r r′ x x′ p q = p ∙ sym q

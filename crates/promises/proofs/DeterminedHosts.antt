@@ -6,7 +6,7 @@ use contract.Lifetimes
 use denote.Ref.{now}
 use Rattle.in_place.specs.Lent.{lent}
 use Rattle.in_place.specs.Retire.{paid}
-use Rattle.host.specs.Runs.{hostOutcome}
+use Rattle.host_numbers.specs.Ran.{hostOutcome}
 use Rattle.host.specs.Images.{hostImage, hostState}
 use Rattle.promises.specs.Determined.{Determined, result}
 use Rattle.host.proofs.timing_060_fresh_at.Reads as fresh

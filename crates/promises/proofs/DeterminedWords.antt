@@ -22,12 +22,13 @@ use Rattle.operand.proofs.flags_of.Reads as operand-flags-of
 use Rattle.operand.proofs.destination_flags.Reads as operand-destination-flags
 use Rattle.operand.proofs.alu_of.Reads as operand-alu-of
 use Rattle.operand.proofs.unclassified.Reads as operand-unclassified
+use Rattle.operand.proofs.poep_only.Reads as operand-poep-only
 use Rattle.classifier.proofs.classify_060_opcode.Reads as classifier-classify-060-opcode
 use Rattle.classifier.proofs.info_060.Reads as classifier-info-060
 use Rattle.masks.proofs.reg_masks_060.Reads as masks-reg-masks-060
-use Rattle.text.proofs.hex_digit.Reads as text-hex-digit
-use Rattle.text.proofs.hex4.Reads as text-hex4
-use Rattle.text.proofs.hex2.Reads as text-hex2
+use Rattle.hex.proofs.hex_digit.Reads as hex-hex-digit
+use Rattle.hex.proofs.hex4.Reads as hex-hex4
+use Rattle.hex.proofs.hex2.Reads as hex-hex2
 
 -- a class is known by its number
 classAt : ℕ → OepClass
@@ -80,6 +81,9 @@ module _ (κs : Lifetimes.Lfts 0) where
   pub operand-unclassified-determined : Determined result (operand-unclassified.Post κs)
   operand-unclassified-determined i r r′ x x′ p q = p ∙ sym q
 
+  pub operand-poep-only-determined : Determined result (operand-poep-only.Post κs)
+  operand-poep-only-determined i r r′ x x′ p q = p ∙ sym q
+
   pub classifier-classify-060-opcode-determined : Determined result (classifier-classify-060-opcode.Post κs)
   classifier-classify-060-opcode-determined i r r′ x x′ p q = p ∙ sym q
 
@@ -89,11 +93,11 @@ module _ (κs : Lifetimes.Lfts 0) where
   pub masks-reg-masks-060-determined : Determined result (masks-reg-masks-060.Post κs)
   masks-reg-masks-060-determined i r r′ x x′ p q = p ∙ sym q
 
-  pub text-hex-digit-determined : Determined result (text-hex-digit.Post κs)
-  text-hex-digit-determined i r r′ x x′ p q = p ∙ sym q
+  pub hex-hex-digit-determined : Determined result (hex-hex-digit.Post κs)
+  hex-hex-digit-determined i r r′ x x′ p q = p ∙ sym q
 
-  pub text-hex4-determined : Determined result (text-hex4.Post κs)
-  text-hex4-determined i r r′ x x′ p q = p ∙ sym q
+  pub hex-hex4-determined : Determined result (hex-hex4.Post κs)
+  hex-hex4-determined i r r′ x x′ p q = p ∙ sym q
 
-  pub text-hex2-determined : Determined result (text-hex2.Post κs)
-  text-hex2-determined i r r′ x x′ p q = p ∙ sym q
+  pub hex-hex2-determined : Determined result (hex-hex2.Post κs)
+  hex-hex2-determined i r r′ x x′ p q = p ∙ sym q

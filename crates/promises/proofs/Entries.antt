@@ -16,7 +16,10 @@ use Rattle.bits.proofs.Words.{num-small, num-is, meets-bit}
 use Rattle.class_word.specs.Word.{classNumber, wordOf, classOf, clocksOf, has, BRANCH, VARIABLE, «EA_INDEXED»}
 use Rattle.class_word.proofs.Words.{class-small, word-class, word-clocks}
 use Rattle.operand.specs.Entry.{Entry, accessFlags, entryWord}
-use Rattle.classifier.specs.Classify.{group0, move, group4, group5, group6, group7, group8, addSub, group11, group12, group14, groups, entryOf}
+use Rattle.low_groups.specs.LowGroups.{group0, move, group5, group6, group7}
+use Rattle.group_four.specs.Group4.{group4}
+use Rattle.high_groups.specs.HighGroups.{group8, addSub, group11, group12, group14}
+use Rattle.classifier.specs.Classify.{groups, entryOf}
 
 abbrev pub inClass : ℕ → Entry → Bool
 inClass n e = eqb (classNumber (e .class)) n

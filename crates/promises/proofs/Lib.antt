@@ -15,3 +15,4 @@ pub mod Batches
 pub mod DeterminedHosts
 pub mod DeterminedGroups
 pub mod DeterminedInPlace
+pub mod DeterminedParts

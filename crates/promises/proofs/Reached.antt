@@ -10,10 +10,11 @@ use lib.IntN.{pos}
 use Rattle.class_word.specs.Word.{info}
 use Rattle.dispatch.specs.declared.Instruction.{Instruction}
 use Rattle.dispatch.specs.declared.Controls.{Controls}
-use Rattle.dispatch.specs.declared.Window.{Window}
-use Rattle.pairing.specs.declared.Answer.{Answer}
-use Rattle.pairing.specs.Retiring.{Retiring, takenOf, kindOf}
-use Rattle.dispatch.specs.Windows.{shut}
+use Rattle.window.specs.declared.Window.{Window}
+use Rattle.branching.specs.declared.Answer.{Answer}
+use Rattle.branching.specs.Branch.{takenOf}
+use Rattle.pairing.specs.Retiring.{Retiring, kindOf}
+use Rattle.window.specs.Windows.{shut}
 use Rattle.dispatch.specs.Dispatch.{failing, firstFailing, holds, isSimple}
 use Rattle.pairing.specs.Cost.{costOf, windowOf, pairs, headOf, plainOf, baseOf}
 use Rattle.step.specs.declared.Retirement.{Retirement}

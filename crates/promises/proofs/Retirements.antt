@@ -7,17 +7,17 @@ use contract.Lifetimes
 use Rattle.class_word.specs.declared.Clocks.{Clocks}
 use Rattle.class_word.specs.Word.{clocks}
 use Rattle.branch_cache.proofs.Laws.{cache-miss-keeps}
-use Rattle.dispatch.specs.Windows.{shut}
+use Rattle.window.specs.Windows.{shut}
 use Rattle.pairing.specs.Cost.{costOf}
 use Rattle.dispatch.proofs.Rules.{passes-simple}
-use Rattle.pairing.proofs.Zero.{pair-cost, pair-costs-nothing}
+use Rattle.free.proofs.Zero.{pair-cost, pair-costs-nothing}
 use Rattle.step.specs.declared.Oep060Timing.{Oep060Timing}
 use Rattle.step.specs.declared.Stepped.{Stepped}
 use Rattle.step.specs.declared.Event.the-variants.{Retired}
 use Rattle.step.specs.Events.{retiringOf}
 use Rattle.step.specs.Crate.{crateBoard}
 use Rattle.step.specs.Step.{stateOf, steppedBy, steppedOf, afterOf}
-use Rattle.step.proofs.cycles_060.Reads as reads
+use Rattle.cycles.proofs.cycles_060.Reads as reads
 use Rattle.promises.specs.Retirements.{EveryEvent}
 use Rattle.promises.specs.Demand3.{joins, folds}
 use Rattle.promises.proofs.Demand.{crate-sound, crate-demand3}

@@ -3,9 +3,13 @@
 use mathlib.Core.Path.{refl}
 use Rattle.bits.specs.Pattern.{matches}
 use Rattle.operand.specs.Entry.{ea}
-use Rattle.classifier.specs.Classify.{classifyOf, group0, move, group4, group5, group6, group7, group8, addSub, group11, group12, group14}
-use Rattle.masks.specs.Registers.{maskOfRegs}
-use Rattle.masks.specs.Masks.{setsOf, operandSets, registerOperand, dyadicSets, shiftSets, group4Sets}
+use Rattle.low_groups.specs.LowGroups.{group0, move, group5, group6, group7}
+use Rattle.group_four.specs.Group4.{group4}
+use Rattle.high_groups.specs.HighGroups.{group8, addSub, group11, group12, group14}
+use Rattle.classifier.specs.Classify.{classifyOf}
+use Rattle.registers.specs.Registers.{maskOfRegs}
+use Rattle.masks.specs.Masks.{setsOf, dyadicSets, shiftSets, group4Sets}
+use Rattle.registers.specs.Operands.{operandSets, registerOperand}
 use Rattle.promises.specs.Worked.{Worked}
 
 pub worked : Worked

@@ -5,14 +5,14 @@ use mathlib.Core.Logic.{_↔_}
 use mathlib.Core.Bool.{Bool, true, false, cond, _&&_, _||_}
 use borrow.Author.Tests.{eqb-true, eq-eqb}
 use Rattle.class_word.specs.Word.{has, BRANCH}
-use Rattle.branch_cache.specs.declared.Predicted.{Predicted}
-use Rattle.branch_cache.specs.declared.Predicted.the-variants as P
-use Rattle.pairing.specs.declared.Answer.the-variants.{NotConsulted}
-use Rattle.pairing.specs.Retiring.{takenOf, predictsTaken}
-use Rattle.dispatch.specs.Windows.{shut}
+use Rattle.slot.specs.declared.Predicted.{Predicted}
+use Rattle.slot.specs.declared.Predicted.the-variants as P
+use Rattle.branching.specs.declared.Answer.the-variants.{NotConsulted}
+use Rattle.branching.specs.Branch.{takenOf, predictsTaken}
+use Rattle.window.specs.Windows.{shut}
 use Rattle.pairing.specs.Cost.{costOf}
-use Rattle.pairing.specs.Free.{free}
-use Rattle.pairing.proofs.Zero.{zero-exactly, zero-shuts}
+use Rattle.free.specs.Free.{free}
+use Rattle.free.proofs.Zero.{zero-exactly, zero-shuts}
 use Rattle.step.specs.declared.Retirement.{Retirement}
 use Rattle.step.specs.declared.Event.the-variants.{Retired}
 use Rattle.step.specs.Board.{Board}

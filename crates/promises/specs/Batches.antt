@@ -11,7 +11,7 @@ use Rattle.little_endian.specs.Numbers.{putAt}
 use Rattle.step.specs.declared.Oep060Timing.{Oep060Timing}
 use Rattle.step.specs.declared.Retirement.{Retirement}
 use Rattle.trace.specs.Run.{costBytes, runTraceOf}
-use Rattle.trace.specs.Table.{Accepts}
+use Rattle.records.specs.Table.{Accepts}
 use Rattle.batch.specs.Batch.{eventsOf, batchOf}
 use Rattle.batch.specs.Given.{gives, isAccepted}
 

@@ -15,13 +15,13 @@ use mathlib.Core.Bool.{Bool, true, false, not, _&&_, _||_}
 use mathlib.Core.List.{List}
 use lib.ListN.{length}
 use Rattle.class_word.specs.Word.{has, BRANCH}
-use Rattle.branch_cache.specs.declared.Predicted.{Predicted}
-use Rattle.branch_cache.specs.declared.Predicted.the-variants.{Miss, NotTaken, Taken}
-use Rattle.pairing.specs.Retiring.{takenOf}
-use Rattle.dispatch.specs.Windows.{shut}
+use Rattle.slot.specs.declared.Predicted.{Predicted}
+use Rattle.slot.specs.declared.Predicted.the-variants.{Miss, NotTaken, Taken}
+use Rattle.branching.specs.Branch.{takenOf}
+use Rattle.window.specs.Windows.{shut}
 use Rattle.dispatch.specs.Dispatch.{passes}
 use Rattle.pairing.specs.Cost.{costOf}
-use Rattle.pairing.specs.Free.{sound}
+use Rattle.free.specs.Free.{sound}
 use Rattle.step.specs.declared.Retirement.{Retirement}
 use Rattle.step.specs.declared.Event.{Event}
 use Rattle.step.specs.declared.Event.the-variants.{Retired}

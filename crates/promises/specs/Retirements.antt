@@ -6,12 +6,13 @@ use Prim.Native.Nat.{ℕ, _-_}
 use mathlib.Core.Path.{_≡_}
 use mathlib.Core.Bool.{Bool, true, false}
 use Rattle.class_word.specs.Word.{has, classOf, clocks, BRANCH, VARIABLE, UNCLASSIFIED, «EA_INDEXED»}
-use Rattle.branch_cache.specs.Cache.{slotAt, slotOf, hitOf, cacheUpdateOf, clearAllOf, clearUserOf}
+use Rattle.slot.specs.Slot.{hitOf}
+use Rattle.branch_cache.specs.Cache.{slotAt, slotOf, cacheUpdateOf, clearAllOf, clearUserOf}
 use Rattle.dispatch.specs.declared.Instruction.{Instruction}
 use Rattle.dispatch.specs.declared.Controls.{Controls}
-use Rattle.dispatch.specs.declared.Window.{Window}
+use Rattle.window.specs.declared.Window.{Window}
 use Rattle.pairing.specs.Retiring.{Retiring}
-use Rattle.dispatch.specs.Windows.{shut, seen}
+use Rattle.window.specs.Windows.{shut, seen}
 use Rattle.dispatch.specs.Dispatch.{passes}
 use Rattle.pairing.specs.Cost.{costOf, baseOf}
 use Rattle.branch_cache.specs.declared.BranchCache060.{BranchCache060}

@@ -13,12 +13,12 @@ use Rattle.step.specs.declared.Oep060Timing.{Oep060Timing}
 use Rattle.step.specs.declared.Event.{Event}
 use Rattle.step.specs.declared.Event.the-variants.{Retired, Broken, ClearedAll, ClearedUser}
 use Rattle.step.specs.Step.{seenOf, steppedOf, afterOf}
-use Rattle.outcome.specs.declared.Refusal.{Refusal}
-use Rattle.outcome.specs.declared.Verdict.the-variants.{Accepted, Refused}
+use Rattle.refusals.specs.declared.Refusal.{Refusal}
+use Rattle.refusals.specs.declared.Verdict.the-variants.{Accepted, Refused}
 use Rattle.outcome.specs.Runs.{refusedOf}
-use Rattle.trace.specs.Trace.{countOf}
+use Rattle.records.specs.Trace.{countOf}
 use Rattle.trace.specs.Run.{Outcome, outcome, acceptedOf, costsOf, nextOf, runTraceOf}
-use Rattle.trace.specs.Table.{Refuses, Accepts}
+use Rattle.records.specs.Table.{Refuses, Accepts}
 
 pub record Stepped : Type 0 where
   pub costs : List ℕ

@@ -11,9 +11,9 @@ use Rattle.little_endian.specs.Numbers.{numberAt}
 use Rattle.little_endian.proofs.Numbers.{number-behind}
 use Rattle.step.specs.declared.Event.{Event}
 use Rattle.step.specs.declared.Event.the-variants.{Retired}
-use Rattle.record.specs.declared.Kind.{Kind}
-use Rattle.record.specs.declared.Kind.the-variants.{Retirement, Break, ClearAll, ClearUser}
-use Rattle.record.specs.Kinds.{payloadLength}
+use Rattle.kinds.specs.declared.Kind.{Kind}
+use Rattle.kinds.specs.declared.Kind.the-variants.{Retirement, Break, ClearAll, ClearUser}
+use Rattle.kinds.specs.Kinds.{payloadLength}
 use Rattle.record.specs.Record.{remaining, nextPlace, retirementAt, eventAt, highFlag}
 use Rattle.record.specs.Table.{Whole, whole}
 

@@ -5,11 +5,11 @@ use mathlib.Core.Path.{_≡_, ap}
 use native.Mathlib.Omega.{arith}
 use lib.Dec.{eqb}
 use borrow.Author.Tests.{eqb-true, eqb-false, ne-eqb}
-use Rattle.record.specs.declared.Kind.{Kind}
-use Rattle.record.specs.declared.Kind.the-variants.{Retirement, Break, ClearAll, ClearUser}
-use Rattle.record.specs.declared.KindRead.{KindRead}
-use Rattle.record.specs.declared.KindRead.the-variants.{Known, Unknown}
-use Rattle.record.specs.Kinds.{kindNumber, kindOf}
+use Rattle.kinds.specs.declared.Kind.{Kind}
+use Rattle.kinds.specs.declared.Kind.the-variants.{Retirement, Break, ClearAll, ClearUser}
+use Rattle.kinds.specs.declared.KindRead.{KindRead}
+use Rattle.kinds.specs.declared.KindRead.the-variants.{Known, Unknown}
+use Rattle.kinds.specs.Kinds.{kindNumber, kindOf}
 use Rattle.record.proofs.Choices.{by-test}
 
 -- what a kind that was read says of its number

@@ -10,14 +10,14 @@ use lib.ListN.{length}
 use borrow.Author.Tests.{lt-ltb, le-ltb, eq-eqb, ne-eqb, ltb-false}
 use Rattle.step.specs.declared.Event.{Event}
 use Rattle.step.specs.declared.Event.the-variants.{Retired, Broken, ClearedAll, ClearedUser}
-use Rattle.outcome.specs.declared.Refusal.the-variants.{Remainder, Length, Cut, Flag}
-use Rattle.record.specs.declared.Kind.{Kind}
-use Rattle.record.specs.declared.Kind.the-variants.{Retirement, Break, ClearAll, ClearUser}
-use Rattle.record.specs.declared.KindRead.{KindRead}
-use Rattle.record.specs.declared.KindRead.the-variants.{Known, Unknown}
+use Rattle.refusals.specs.declared.Refusal.the-variants.{Remainder, Length, Cut, Flag}
+use Rattle.kinds.specs.declared.Kind.{Kind}
+use Rattle.kinds.specs.declared.Kind.the-variants.{Retirement, Break, ClearAll, ClearUser}
+use Rattle.kinds.specs.declared.KindRead.{KindRead}
+use Rattle.kinds.specs.declared.KindRead.the-variants.{Known, Unknown}
 use Rattle.record.specs.declared.Read.{Read}
 use Rattle.record.specs.declared.Read.the-variants.{Got, Bad, End}
-use Rattle.record.specs.Kinds.{kindNumber, payloadLength, kindOf}
+use Rattle.kinds.specs.Kinds.{kindNumber, payloadLength, kindOf}
 use Rattle.record.specs.Record.{remaining, lengthAt, kindAt, nextPlace, eventAt, highFlag, recordAt, bodyAt, readAt}
 use Rattle.record.proofs.Choices.{by-test}
 use Rattle.record.proofs.KindNumbers.{kind-found}

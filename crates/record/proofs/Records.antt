@@ -9,15 +9,15 @@ use lib.Dec.{eqb, ltb}
 use lib.ListN.{length}
 use borrow.Author.Tests.{lt-ltb, ltb-true, ltb-false, eqb-true, eqb-false, not-true, not-false}
 use Rattle.step.specs.declared.Event.{Event}
-use Rattle.outcome.specs.declared.Refusal.{Refusal}
-use Rattle.outcome.specs.declared.Refusal.the-variants.{Flag}
-use Rattle.record.specs.declared.Kind.{Kind}
-use Rattle.record.specs.declared.Kind.the-variants.{Retirement, Break, ClearAll, ClearUser}
-use Rattle.record.specs.declared.KindRead.{KindRead}
-use Rattle.record.specs.declared.KindRead.the-variants.{Known, Unknown}
+use Rattle.refusals.specs.declared.Refusal.{Refusal}
+use Rattle.refusals.specs.declared.Refusal.the-variants.{Flag}
+use Rattle.kinds.specs.declared.Kind.{Kind}
+use Rattle.kinds.specs.declared.Kind.the-variants.{Retirement, Break, ClearAll, ClearUser}
+use Rattle.kinds.specs.declared.KindRead.{KindRead}
+use Rattle.kinds.specs.declared.KindRead.the-variants.{Known, Unknown}
 use Rattle.record.specs.declared.Read.{Read}
 use Rattle.record.specs.declared.Read.the-variants.{Got, Bad, End}
-use Rattle.record.specs.Kinds.{payloadLength, kindOf}
+use Rattle.kinds.specs.Kinds.{payloadLength, kindOf}
 use Rattle.record.specs.Record.{remaining, lengthAt, kindAt, nextPlace, highFlag, recordAt, bodyAt, readAt}
 use Rattle.record.specs.Table.{Headed, Faulty, row2, row3, row4, row5, row6, Whole, whole}
 use Rattle.record.proofs.Choices.{by-test}

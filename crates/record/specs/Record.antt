@@ -29,14 +29,14 @@ use Rattle.step.specs.declared.Retirement.{Retirement}
 use Rattle.step.specs.declared.Event.{Event}
 use Rattle.step.specs.declared.Event.the-variants.{Retired, Broken, ClearedAll, ClearedUser}
 use Rattle.in_place.specs.Retire.{retirementOf}
-use Rattle.outcome.specs.declared.Refusal.the-variants.{Remainder, Kind, Length, Cut, Flag}
-use Rattle.record.specs.declared.Kind as declared
-use Rattle.record.specs.declared.Kind.the-variants as K
-use Rattle.record.specs.declared.KindRead.{KindRead}
-use Rattle.record.specs.declared.KindRead.the-variants.{Known, Unknown}
+use Rattle.refusals.specs.declared.Refusal.the-variants.{Remainder, Kind, Length, Cut, Flag}
+use Rattle.kinds.specs.declared.Kind as declared
+use Rattle.kinds.specs.declared.Kind.the-variants as K
+use Rattle.kinds.specs.declared.KindRead.{KindRead}
+use Rattle.kinds.specs.declared.KindRead.the-variants.{Known, Unknown}
 use Rattle.record.specs.declared.Read.{Read}
 use Rattle.record.specs.declared.Read.the-variants.{Got, Bad, End}
-use Rattle.record.specs.Kinds.{payloadLength, kindOf}
+use Rattle.kinds.specs.Kinds.{payloadLength, kindOf}
 
 abbrev pub remaining : List ℕ → ℕ → ℕ
 remaining trace at = length trace - at

@@ -10,11 +10,11 @@ use mathlib.Core.Path.{_≡_}
 use mathlib.Core.Bool.{false}
 use mathlib.Core.List.{List}
 use Rattle.step.specs.declared.Event.{Event}
-use Rattle.outcome.specs.declared.Refusal.{Refusal}
-use Rattle.outcome.specs.declared.Refusal.the-variants.{Remainder, Kind, Length, Cut, Flag}
-use Rattle.record.specs.declared.Kind as declared
-use Rattle.record.specs.declared.Kind.the-variants as K
-use Rattle.record.specs.Kinds.{kindNumber, payloadLength}
+use Rattle.refusals.specs.declared.Refusal.{Refusal}
+use Rattle.refusals.specs.declared.Refusal.the-variants.{Remainder, Kind, Length, Cut, Flag}
+use Rattle.kinds.specs.declared.Kind as declared
+use Rattle.kinds.specs.declared.Kind.the-variants as K
+use Rattle.kinds.specs.Kinds.{kindNumber, payloadLength}
 use Rattle.record.specs.Record.{remaining, lengthAt, kindAt, flagsAt, nextPlace, eventAt, highFlag}
 
 abbrev pub Headed : List ℕ → ℕ → declared.Kind → Type 0

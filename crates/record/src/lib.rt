@@ -2,56 +2,21 @@
 ghost use mathlib.Core.Path.{_≡_};
 ghost use Prim.Native.Nat.{_+_, _≤_};
 ghost use lib.ListN.{length};
-ghost use Rattle.record.specs.Kinds.{kindOf, payloadLength};
 ghost use Rattle.record.specs.Record.{retirementAt, recordAt, readAt};
-use outcome::Refusal;
+use kinds::Kind;
+use kinds::KindRead;
+use refusals::Refusal;
 use step::Event;
 use step::Retirement;
 
 // Flag bits 0 to 4, all set.
 const ALL_FLAGS: u16 = 31;
 
-pub enum Kind {
-    Retirement,
-    Break,
-    ClearAll,
-    ClearUser,
-}
-
-// The kind that a number names, if there is one.
-pub enum KindRead {
-    Known(Kind),
-    Unknown,
-}
-
 // What stands at a place of a trace: an event and the place after its record, a refusal, or the end.
 pub enum Read {
     Got(Event, usize),
     Bad(Refusal),
     End,
-}
-
-fn kind_of(number: u16) -> KindRead
-    ensures { λ r. ⌜ r ≡ kindOf number ⌝ }
-{
-    match number {
-        1 => KindRead::Known(Kind::Retirement),
-        2 => KindRead::Known(Kind::Break),
-        3 => KindRead::Known(Kind::ClearAll),
-        4 => KindRead::Known(Kind::ClearUser),
-        _ => KindRead::Unknown,
-    }
-}
-
-fn payload_length(kind: Kind) -> u16
-    ensures { λ r. ⌜ r ≡ payloadLength kind ⌝ }
-{
-    match kind {
-        Kind::Retirement => 16,
-        Kind::Break => 0,
-        Kind::ClearAll => 0,
-        Kind::ClearUser => 0,
-    }
 }
 
 // The retirement in the payload of the record at `at`, all of which is there.
@@ -72,7 +37,7 @@ fn record_at(trace: &[u8], at: usize, kind: Kind) -> Read
     requires { ⌜ at + 4 ≤ length (now trace) ⌝ }
     ensures { λ r. ⌜ r ≡ recordAt (now (trace .entry)) at kind ⌝ }
 {
-    let want = payload_length(kind);
+    let want = kinds::payload_length(kind);
     let size = want as usize;
     let next = at + 4 + size;
     let len = little_endian::u16_at(trace, at);
@@ -105,7 +70,7 @@ pub fn read_record(trace: &[u8], at: usize) -> Read
     if trace.len() - at < 4 {
         return Read::Bad(Refusal::Remainder(at));
     }
-    let found = kind_of(little_endian::u16_at(trace, at + 2));
+    let found = kinds::kind_of(little_endian::u16_at(trace, at + 2));
     match found {
         KindRead::Known(kind) => record_at(trace, at, kind),
         KindRead::Unknown => Read::Bad(Refusal::Kind(at)),

@@ -13,27 +13,29 @@ use borrow.Author.Tests.{le-ltb, ltb-true, ltb-false}
 use Rattle.little_endian.specs.Numbers.{bytesOf, putAt}
 use Rattle.text.specs.Written.{textOf, written, writtenOf}
 use Rattle.text.proofs.Writing.{wrote, wrote-more, wrote-whole}
-use Rattle.dispatch.specs.Windows.{seen}
+use Rattle.window.specs.Windows.{seen}
 use Rattle.step.specs.declared.Event.{Event}
 use Rattle.step.specs.declared.Oep060Timing.{Oep060Timing}
-use Rattle.outcome.specs.declared.Refusal.{Refusal}
-use Rattle.outcome.specs.declared.Verdict.{Verdict}
-use Rattle.outcome.specs.declared.Verdict.the-variants.{Accepted, Refused}
-use Rattle.trace.specs.Trace.{Trace, events, refused}
+use Rattle.refusals.specs.declared.Refusal.{Refusal}
+use Rattle.refusals.specs.declared.Verdict.{Verdict}
+use Rattle.refusals.specs.declared.Verdict.the-variants.{Accepted, Refused}
+use Rattle.records.specs.Trace.{Trace, events, refused}
+use Rattle.image_bytes.specs.Bytes.{bytesOfEach, headerBytes, windowBytes}
+use Rattle.image_bytes.proofs.Numbers.{each-length}
+use Rattle.image_bytes.proofs.Writing.{header-length}
 use Rattle.image.specs.declared.ImageWritten.{ImageWritten}
 use Rattle.image.specs.declared.ImageRead.{ImageRead}
-use Rattle.image.specs.Image.{bytesOfEach, headerBytes, windowBytes, imageOf}
+use Rattle.image.specs.Image.{imageOf}
 use Rattle.image.specs.Entries as image
 use Rattle.image.specs.Entries.{imageWriteOf, imageReadOf}
-use Rattle.image.proofs.Numbers.{each-length}
-use Rattle.image.proofs.Writing.{header-length}
+use Rattle.lines.specs.Lines.{refusalLine}
 use Rattle.listing.specs.declared.Listed.{Listed}
-use Rattle.listing.specs.Lines.{refusalLine}
 use Rattle.listing.specs.Listing.{Outcome, outcome, outcomeBy, judgedOf, tableOf}
 use Rattle.listing.proofs.Within.{text-fits, listed-text}
-use Rattle.replaying.specs.Rows.{hexRows}
-use Rattle.replaying.specs.Replay.{imageIn, traceIn, shown, replayBy, replayOf}
-use Rattle.replaying.proofs.Rows.{rows-length}
+use Rattle.rows.specs.Rows.{hexRows}
+use Rattle.replaying.specs.Replay.{imageIn, traceIn, imageLines, shown, replayBy, replayOf}
+use Rattle.replaying.specs.Inner.{printedBy, printed}
+use Rattle.rows.proofs.Rows.{rows-length}
 
 -- ---- the image that is written
 image-long : (t : Oep060Timing) → length (t .cache .tags) ≡ 256 → length (t .cache .state) ≡ 256 → length (imageOf t) ≡ 1288
@@ -104,9 +106,17 @@ module _ (trace out : List ℕ) (t : Oep060Timing) {r : Listed} {after : List �
   replay-room = short (judgedOf trace) out t bound e v
 
   pub replay-shown : 68224 ≤ length out → length (r .timing .cache .tags) ≡ 256 → length (r .timing .cache .state) ≡ 256
-      → {bytes : List ℕ} → bytes ≡ imageOf (r .timing) → {n : ℕ} {last : List ℕ} → written n last ≡ writtenOf after (r .len) (hexRows 41 bytes)
+      → {n : ℕ} {last : List ℕ} → written n last ≡ writtenOf after (r .len) (imageLines (r .timing))
       → written n last ≡ writtenOf out 0 (shown (judgedOf trace) t)
-  replay-shown room a b q d = rows (judgedOf trace) out t room bound e v (image-long (r .timing) a b) (rw q at d)
+  replay-shown room a b d = rows (judgedOf trace) out t room bound e v (image-long (r .timing) a b) d
+
+-- ---- the verdict on the image
+module _ (image trace : List ℕ) {read : ImageRead} (e : read ≡ imageReadOf image) where
+  pub printed-refused : {refusal : Refusal} → read .verdict ≡ Refused refusal → printed (imageReadOf image) trace ≡ textOf "image " ++ refusalLine refusal
+  printed-refused v = ap (λ (x : ImageRead). printed x trace) (sym e) ∙ ap (λ (u : Verdict). printedBy u (read .timing) trace) v
+
+  pub printed-accepted : read .verdict ≡ Accepted → printed (imageReadOf image) trace ≡ shown (judgedOf trace) (read .timing)
+  printed-accepted v = ap (λ (x : ImageRead). printed x trace) (sym e) ∙ ap (λ (u : Verdict). printedBy u (read .timing) trace) v
 
 -- ---- the two parts of the input
 module _ (input : List ℕ) where
@@ -128,16 +138,16 @@ module _ (input : List ℕ) where
           drop-of-length-le input {i = min (length input) 1288} (omega arith) ∙ sym (drop-of-length-le input {i = 1288} (omega arith))
       go false q = rw (min-eq-right (ltb-false (length input) 1288 q))
 
-  module _ {size : ℕ} (least : size ≡ min (length input) 1288) {read : ImageRead} (e : read ≡ imageReadOf (take size input)) where
-    image-read : read ≡ imageReadOf (imageIn input)
-    image-read = e ∙ ap imageReadOf (ap (λ (n : ℕ). take n input) least ∙ image-part)
+  by-verdict : (v : Verdict) → replayBy v input ≡ printedBy v (imageReadOf (imageIn input) .timing) (traceIn input)
+  by-verdict (Refused refusal) = refl
+  by-verdict Accepted = refl
 
-    pub replay-refused : {refusal : Refusal} → read .verdict ≡ Refused refusal → replayOf input ≡ textOf "image " ++ refusalLine refusal
-    replay-refused v = ap (λ (u : Verdict). replayBy u input) (sym (ap (λ (x : ImageRead). x .verdict) image-read) ∙ v)
-
-    pub replay-accepted : read .verdict ≡ Accepted → replayOf input ≡ shown (judgedOf (take (length input - size) (drop size input))) (read .timing)
-    replay-accepted v =
-        let all : take (length input - size) (drop size input) ≡ drop size input = take-all (length input - size) (drop size input) (omega (arith, length-drop size input)) in
-        let rest : take (length input - size) (drop size input) ≡ traceIn input = all ∙ ap (λ (n : ℕ). drop n input) least ∙ trace-part in
-        ap (λ (u : Verdict). replayBy u input) (sym (ap (λ (x : ImageRead). x .verdict) image-read) ∙ v)
-        ∙ sym (ap (λ (l : List ℕ). shown (judgedOf l) (read .timing)) rest ∙ ap (λ (x : ImageRead). shown (judgedOf (traceIn input)) (x .timing)) image-read)
+  pub replay-printed : {size : ℕ} → size ≡ min (length input) 1288
+      → printed (imageReadOf (take size input)) (take (length input - size) (drop size input)) ≡ replayOf input
+  replay-printed {size} least =
+      let all : take (length input - size) (drop size input) ≡ drop size input = take-all (length input - size) (drop size input) (omega (arith, length-drop size input)) in
+      let rest : take (length input - size) (drop size input) ≡ traceIn input = all ∙ ap (λ (n : ℕ). drop n input) least ∙ trace-part in
+      let front : take size input ≡ imageIn input = ap (λ (n : ℕ). take n input) least ∙ image-part in
+      ap (λ (xs : List ℕ). printed (imageReadOf xs) (take (length input - size) (drop size input))) front
+      ∙ ap (printed (imageReadOf (imageIn input))) rest
+      ∙ sym (by-verdict (imageReadOf (imageIn input) .verdict))

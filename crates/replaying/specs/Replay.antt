@@ -13,15 +13,15 @@ use mathlib.Core.List.{List, _++_}
 use lib.ListN.{take, drop}
 use Rattle.text.specs.Written.{textOf}
 use Rattle.step.specs.declared.Oep060Timing.{Oep060Timing}
-use Rattle.outcome.specs.declared.Verdict.{Verdict}
-use Rattle.outcome.specs.declared.Verdict.the-variants.{Accepted, Refused}
-use Rattle.trace.specs.Trace.{Trace, events, refused}
+use Rattle.refusals.specs.declared.Verdict.{Verdict}
+use Rattle.refusals.specs.declared.Verdict.the-variants.{Accepted, Refused}
+use Rattle.records.specs.Trace.{Trace, events, refused}
 use Rattle.trace.specs.Run.{nextOf}
 use Rattle.image.specs.Image.{imageOf}
 use Rattle.image.specs.Entries.{imageReadOf}
-use Rattle.listing.specs.Lines.{refusalLine}
+use Rattle.lines.specs.Lines.{refusalLine}
 use Rattle.listing.specs.Listing.{judgedOf, tableOf}
-use Rattle.replaying.specs.Rows.{hexRows}
+use Rattle.rows.specs.Rows.{hexRows}
 
 abbrev pub imageIn : List ℕ → List ℕ
 imageIn input = take 1288 input

@@ -6,7 +6,7 @@
 --   Board       ==  a profile and a cache
 use Prim.Native.Nat.{ℕ}
 use mathlib.Core.Bool.{Bool}
-use Rattle.branch_cache.specs.declared.Predicted.{Predicted}
+use Rattle.slot.specs.declared.Predicted.{Predicted}
 use Rattle.dispatch.specs.declared.Instruction.{Instruction}
 
 abbrev pub Profile : Type 0

@@ -21,15 +21,16 @@ use Prim.Native.Nat.{ℕ, _+_}
 use mathlib.Core.Bool.{Bool, not, cond, _&&_}
 use mathlib.Core.List.{List, [], _∷_, map}
 use Rattle.class_word.specs.Word.{has, BRANCH}
-use Rattle.branch_cache.specs.declared.Predicted.{Predicted}
-use Rattle.branch_cache.specs.declared.Predicted.the-variants as P
+use Rattle.slot.specs.declared.Predicted.{Predicted}
+use Rattle.slot.specs.declared.Predicted.the-variants as P
 use Rattle.dispatch.specs.declared.Instruction.{Instruction}
 use Rattle.dispatch.specs.declared.Controls.{Controls}
-use Rattle.dispatch.specs.declared.Window.{Window}
-use Rattle.pairing.specs.declared.Answer.{Answer}
-use Rattle.pairing.specs.declared.Answer.the-variants.{NotConsulted, Miss, PredictedNotTaken, PredictedTaken}
-use Rattle.pairing.specs.Retiring.{Retiring, retiring, takenOf}
-use Rattle.dispatch.specs.Windows.{shut, seen}
+use Rattle.window.specs.declared.Window.{Window}
+use Rattle.branching.specs.declared.Answer.{Answer}
+use Rattle.branching.specs.declared.Answer.the-variants.{NotConsulted, Miss, PredictedNotTaken, PredictedTaken}
+use Rattle.branching.specs.Branch.{takenOf}
+use Rattle.pairing.specs.Retiring.{Retiring, retiring}
+use Rattle.window.specs.Windows.{shut, seen}
 use Rattle.pairing.specs.Cost.{costOf, windowOf}
 use Rattle.step.specs.declared.Retirement.{Retirement}
 use Rattle.step.specs.declared.Event.{Event}

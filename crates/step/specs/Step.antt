@@ -17,9 +17,9 @@ use Rattle.branch_cache.specs.declared.BranchCache060.{BranchCache060}
 use Rattle.branch_cache.specs.Cache as cache
 use Rattle.dispatch.specs.declared.Instruction.{Instruction}
 use Rattle.dispatch.specs.declared.Controls.{Controls}
-use Rattle.dispatch.specs.declared.Window.{Window}
-use Rattle.dispatch.specs.Windows.{shut}
-use Rattle.pairing.specs.declared.Answer.{Answer}
+use Rattle.window.specs.declared.Window.{Window}
+use Rattle.window.specs.Windows.{shut}
+use Rattle.branching.specs.declared.Answer.{Answer}
 use Rattle.pairing.specs.Cost.{costOf, windowOf}
 use Rattle.step.specs.declared.Retirement.{Retirement}
 use Rattle.step.specs.declared.Event.{Event}

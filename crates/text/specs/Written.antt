@@ -1,6 +1,7 @@
 -- Document 01, "Worked instructions": "Whole output". Text is a list of characters, each as the number of its byte.
 --
 --   textOf quoted            ==  the characters of a quoted text
+--   newline                  ==  the end of a line
 --   Written                  ==  what a function that writes text answers, the place behind the text, together with the lent bytes afterwards
 --   written next lent        ==  the two together
 --   writtenOf lent at text   ==  the text put into the lent bytes from the place `at` on, all others as they were
@@ -14,6 +15,9 @@ use Rattle.little_endian.specs.Numbers.{putAt}
 abbrev pub textOf : String → List ℕ
 textOf empty = []
 textOf (c before s) = code c ∷ textOf s
+
+abbrev pub newline : List ℕ
+newline = textOf "\n"
 
 pub record Written : Type 0 where
   pub next : ℕ

@@ -1,43 +1,10 @@
 // Numbers as the tools print them.
 ghost use mathlib.Core.Path.{_≡_};
-ghost use Prim.Native.Nat.{_+_, _%_, _≤_};
+ghost use Prim.Native.Nat.{_+_, _≤_};
 ghost use lib.ListN.{length};
-ghost use Rattle.text.specs.Hex.{hexDigit, hexOf, hexByteOf};
+ghost use Rattle.hex.specs.Hex.{hexOf, hexByteOf};
 ghost use Rattle.text.specs.Decimal.{decimalOf};
 ghost use Rattle.text.specs.Written.{written, writtenOf};
-
-// The upper-case hexadecimal digit of the low four bits.
-pub fn hex_digit(n: u16) -> u8
-    ensures { λ r. ⌜ r ≡ hexDigit (n % 16) ⌝ }
-{
-    let low = n % 16;
-    if low < 10 {
-        48 + low as u8
-    } else {
-        55 + low as u8
-    }
-}
-
-// The four upper-case hexadecimal digits of a word.
-pub fn hex4(word: u16) -> [u8; 4]
-    ensures { λ r. ⌜ r ≡ hexOf word ⌝ }
-{
-    let d3 = hex_digit(word / 4096);
-    let d2 = hex_digit(word / 256);
-    let d1 = hex_digit(word / 16);
-    let d0 = hex_digit(word);
-    [d3, d2, d1, d0]
-}
-
-// The two upper-case hexadecimal digits of a byte.
-pub fn hex2(byte: u8) -> [u8; 2]
-    ensures { λ r. ⌜ r ≡ hexByteOf byte ⌝ }
-{
-    let word = byte as u16;
-    let d1 = hex_digit(word / 16);
-    let d0 = hex_digit(word);
-    [d1, d0]
-}
 
 // Puts bytes at a place, and answers the place behind them.
 pub fn put_bytes(out: &mut [u8], at: usize, s: &[u8]) -> usize
@@ -58,7 +25,7 @@ pub fn put_hex4(out: &mut [u8], at: usize, word: u16) -> usize
     requires { ⌜ at + 4 ≤ length (now out) ⌝ }
     ensures { λ r. ⌜ written r (now (out .exit)) ≡ writtenOf (now (out .entry)) at (hexOf word) ⌝ }
 {
-    let digits = hex4(word);
+    let digits = hex::hex4(word);
     put_bytes(out, at, &digits)
 }
 
@@ -67,7 +34,7 @@ pub fn put_hex2(out: &mut [u8], at: usize, byte: u8) -> usize
     requires { ⌜ at + 2 ≤ length (now out) ⌝ }
     ensures { λ r. ⌜ written r (now (out .exit)) ≡ writtenOf (now (out .entry)) at (hexByteOf byte) ⌝ }
 {
-    let digits = hex2(byte);
+    let digits = hex::hex2(byte);
     put_bytes(out, at, &digits)
 }
 

@@ -7,10 +7,10 @@ use lib.ListN.{length}
 use Rattle.little_endian.specs.Numbers.{Below}
 use Rattle.step.specs.declared.Event.{Event}
 use Rattle.step.specs.Events.{total}
-use Rattle.trace.specs.Trace.{countOf}
-use Rattle.trace.specs.Table.{Reached, start, past, Accepts}
-use Rattle.trace.proofs.Walking.{got-within}
-use Rattle.trace.proofs.Counting.{count-one}
+use Rattle.records.specs.Trace.{countOf}
+use Rattle.records.specs.Table.{Reached, start, past, Accepts}
+use Rattle.records.proofs.Walking.{got-within}
+use Rattle.records.proofs.Counting.{count-one}
 use Rattle.record.proofs.Records.{whole-then}
 use Rattle.trace.proofs.Parts.{count-append}
 

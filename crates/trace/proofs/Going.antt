@@ -14,13 +14,15 @@ use Rattle.step.specs.declared.Event.the-variants.{Retired}
 use Rattle.step.specs.declared.Oep060Timing.{Oep060Timing}
 use Rattle.step.specs.declared.Stepped.{Stepped}
 use Rattle.step.specs.Step.{steppedOf, afterOf, seenOf}
-use Rattle.outcome.specs.declared.Refusal.{Refusal}
+use Rattle.refusals.specs.declared.Refusal.{Refusal}
 use Rattle.record.specs.declared.Read.the-variants.{Got, Bad, End}
 use Rattle.record.specs.Record.{readAt}
-use Rattle.trace.specs.Trace.{ahead, readFrom, countOf}
-use Rattle.trace.specs.Run.{outcome, outcomeOf, Fits}
-use Rattle.trace.proofs.Walking.{got-within, from-end, from-bad, from-got}
-use Rattle.trace.proofs.Running.{ranAt, outcomeFrom, run-none, run-end, run-cost, run-quiet, fits-ahead, fits-room}
+use Rattle.records.specs.Trace.{ahead, readFrom, countOf}
+use Rattle.records.specs.Judged.{Fits}
+use Rattle.records.proofs.Walking.{got-within, from-end, from-bad, from-got}
+use Rattle.records.proofs.Judging.{fits-ahead, fits-room}
+use Rattle.trace.specs.Run.{outcome, ranAt, outcomeOf}
+use Rattle.trace.proofs.Running.{outcomeFrom, run-none, run-end, run-cost, run-quiet}
 
 pub record Going (trace lent₀ : List ℕ) (t₀ : Oep060Timing) (lent : List ℕ) (at k sum : ℕ) (t : Oep060Timing) : Type 0 where
   pub inside : at ≤ length trace
@@ -45,6 +47,10 @@ going-start trace lent t e f =
 module _ {trace lent₀ : List ℕ} {t₀ : Oep060Timing} {lent : List ℕ} {at k sum : ℕ} {t : Oep060Timing} (g : Going trace lent₀ t₀ lent at k sum t) where
   pub going-end : readAt trace at ≡ End → outcome (ranAt k sum t) lent ≡ outcomeOf (readFrom trace 0) lent₀ t₀
   going-end q = sym (run-end lent k sum t) ∙ sym (ap (outcomeFrom lent k sum t) (from-end trace at q)) ∙ g .leads
+
+  -- so the total fits 64 bits: a trace of 16,777,216 bytes has 838,860 retirements at most
+  pub going-total : length trace ≤ 16777216 → {n : ℕ} → n < 2 ^ 32 → sum + n < 2 ^ 64
+  going-total h l = omega (arith, g .few, g .inside, g .small)
 
   pub going-bad : (refusal : Refusal) → readAt trace at ≡ Bad refusal → ⊥
   going-bad refusal q = subst (Fits k (length lent)) (from-bad trace at refusal q) (g .fits)
@@ -81,14 +87,6 @@ module _ {trace lent₀ : List ℕ} {t₀ : Oep060Timing} {lent : List ℕ} {at 
 
     pub going-room : k * 4 + 4 ≤ length lent
     going-room = omega (arith, fits-room (k + 1) (length lent) (readFrom trace next) (fits-next (Retired r) next retired))
-
-    -- so the total fits 64 bits: a trace of 16,777,216 bytes has 838,860 retirements at most
-    pub going-total : length trace ≤ 16777216 → {n : ℕ} → n < 2 ^ 32 → sum + n < 2 ^ 64
-    going-total h l =
-        let w = got-within trace at (Retired r) next retired in
-        let i = g .few in
-        let j = g .small in
-        omega arith
 
     pub going-cost : (d : Stepped) → d ≡ steppedOf t r → d .cost .0 < 2 ^ 32
         → Going trace lent₀ t₀ (putAt lent (k * 4) (bytesOf 4 (d .cost .0))) next (k + 1) (sum + d .cost .0) (d .timing)

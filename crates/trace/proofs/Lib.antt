@@ -1,10 +1,9 @@
-pub mod Walking
-pub mod Counting
 pub mod Running
+pub mod Seen
+pub mod Starting
 pub mod Going
+pub mod Turning
 pub mod Judging
 pub mod Refused
-pub mod Seen
-pub mod Joined
 pub mod Parts
 pub mod Bounds

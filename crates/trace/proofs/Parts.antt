@@ -16,14 +16,14 @@ use Rattle.step.specs.Board.{Board}
 use Rattle.step.specs.Events.{State, retiringOf, after, retirements, finally, costs, total}
 use Rattle.step.specs.Crate.{crateCache, crateBoard}
 use Rattle.step.specs.Step.{stateOf, timingOf, seenOf}
-use Rattle.outcome.specs.declared.Verdict.the-variants.{Accepted}
-use Rattle.trace.specs.Trace.{countOf}
+use Rattle.refusals.specs.declared.Verdict.the-variants.{Accepted}
+use Rattle.records.specs.Trace.{countOf}
 use Rattle.trace.specs.Run.{costBytes, costsOf, nextOf, Outcome, outcome, runTraceOf}
-use Rattle.trace.specs.Table.{Accepts}
-use Rattle.trace.proofs.Counting.{count-cons}
+use Rattle.records.specs.Table.{Accepts}
+use Rattle.records.proofs.Counting.{count-cons}
 use Rattle.trace.proofs.Seen.{state-seen, finally-seen}
 use Rattle.trace.proofs.Refused.{run-accepted}
-use Rattle.trace.proofs.Joined.{reached-joined}
+use Rattle.records.proofs.Joined.{reached-joined}
 
 module _ (B : Board) where
   pub finally-append : (s : State (B .rule)) (es fs : List Event) → finally B s (es ++ fs) ≡ finally B (finally B s es) fs

@@ -1,130 +1,21 @@
--- Each refusal of a run is given then and only then when the table of document 01 says so, and a run is accepted when no row is given.
+-- The same of the whole run, what it returns and the lent bytes: each refusal is given then and only then when the table of document 01 says so, and
+-- a run is accepted when no row is given.
 -- Assumes nothing.
-use Prim.Native.Nat.{ℕ, zero, suc, _+_, _*_, _≤_}
-use mathlib.Core.Path.{_≡_, refl, sym, ap, subst, _∙_}
-use mathlib.Core.List.{List, [], _∷_, _++_, append-assoc, append-nil}
-use native.Mathlib.Omega.{arith}
-use lib.Dec.{ltb}
+use Prim.Native.Nat.{ℕ}
+use mathlib.Core.Path.{_≡_}
+use mathlib.Core.List.{List}
 use lib.ListN.{length}
-use borrow.Author.Tests.{lt-ltb, le-ltb, ltb-true, ltb-false}
 use Rattle.step.specs.declared.Event.{Event}
 use Rattle.step.specs.declared.Oep060Timing.{Oep060Timing}
-use Rattle.outcome.specs.declared.Refusal.{Refusal}
-use Rattle.outcome.specs.declared.Verdict.the-variants.{Refused}
+use Rattle.refusals.specs.declared.Refusal.{Refusal}
+use Rattle.refusals.specs.declared.Verdict.the-variants.{Refused}
 use Rattle.outcome.specs.Runs.{refusedOf}
-use Rattle.record.specs.declared.Read.{Read}
-use Rattle.record.specs.declared.Read.the-variants.{Got, Bad, End}
-use Rattle.record.specs.Record.{remaining, readAt}
-use Rattle.trace.specs.Trace.{Trace, events, refused, ahead, readFrom, readTrace, countOf}
-use Rattle.trace.specs.Run.{outcome, acceptedOf, outcomeOf, withRoom, judged, runTraceOf}
-use Rattle.record.specs.Table.{Faulty}
-use Rattle.trace.specs.Table.{Reached, start, past, Refuses, row1, rows2to6, row7, Accepts}
-use Rattle.record.proofs.Choices.{by-test}
-use Rattle.record.proofs.Reading.{read-end}
-use Rattle.trace.proofs.Walking.{got-within, from-end, from-bad, from-got}
-use Rattle.record.proofs.Records.{faulty-then, whole-then, faulty-only, whole-only, read-explained, Explained}
+use Rattle.records.specs.Trace.{Trace, events, refused}
+use Rattle.records.specs.Judged.{judged}
+use Rattle.records.specs.Table.{Refuses, Accepts}
+use Rattle.records.proofs.Refused.{refuses-then, accepts-then, refuses-only}
+use Rattle.trace.specs.Run.{outcome, acceptedOf, outcomeOf, runTraceOf}
 
--- events in front of what follows them
-abbrev before : List Event → Trace → Trace
-before [] t = t
-before (e ∷ es) t = ahead e (before es t)
-
-before-last : (es : List Event) (e : Event) (t : Trace) → before (es ++ e ∷ []) t ≡ before es (ahead e t)
-before-last [] e t = refl
-before-last (d ∷ es) e t = ap (ahead d) (before-last es e t)
-
-before-refused : (es : List Event) (refusal : Refusal) → before es (refused refusal) ≡ refused refusal
-before-refused [] refusal = refl
-before-refused (e ∷ es) refusal = ap (ahead e) (before-refused es refusal)
-
-before-none : (es : List Event) → before es (events []) ≡ events es
-before-none [] = refl
-before-none (e ∷ es) = ap (ahead e) (before-none es)
-
-module _ (trace : List ℕ) where
-  pub reached-within : {at : ℕ} {es : List Event} → Reached trace at es → at ≤ length trace
-  reached-within start = omega arith
-  reached-within (past {at} {next} {es} {e} h w) = got-within trace at e next (whole-then trace at w) .1
-
-  -- what a trace says is what was passed, and then what it says from the place reached
-  reached-reads : {at : ℕ} {es : List Event} → Reached trace at es → readTrace trace ≡ before es (readFrom trace at)
-  reached-reads start = refl
-  reached-reads (past {at} {next} {es} {e} h w) =
-      reached-reads h ∙ ap (before es) (from-got trace at e next (whole-then trace at w)) ∙ sym (before-last es e (readFrom trace next))
-
-  pub sound-then : {es : List Event} → Reached trace (length trace) es → readTrace trace ≡ events es
-  sound-then {es} h = reached-reads h ∙ ap (before es) (from-end trace (length trace) (read-end trace (length trace) (omega arith))) ∙ before-none es
-
-  faulty-reads : {at : ℕ} {es : List Event} {refusal : Refusal} → Reached trace at es → Faulty trace at refusal → readTrace trace ≡ refused refusal
-  faulty-reads {at} {es} {refusal} h f = reached-reads h ∙ ap (before es) (from-bad trace at refusal (faulty-then trace at f)) ∙ before-refused es refusal
-
-  module _ (room : ℕ) where
-    -- what is reached where the reading ends
-    abbrev Ends : List Event → Trace → Type 0
-    Ends es (events fs) = Reached trace (length trace) (es ++ fs)
-    Ends es (refused refusal) = length trace ≤ 16777216 → Refuses trace room refusal
-
-    ends-ahead : (es : List Event) (e : Event) (t : Trace) → Ends (es ++ e ∷ []) t → Ends es (ahead e t)
-    ends-ahead es e (events fs) h = rw append-assoc at h
-    ends-ahead es e (refused refusal) h = h
-
-    ends-here : {at : ℕ} {es : List Event} → Reached trace at es → remaining trace at ≡ 0 → Ends es (events [])
-    ends-here {at} {es} h z =
-        let l : at ≡ length trace = omega (arith, reached-within h) in
-        rw append-nil (subst (λ (n : ℕ). Reached trace n es) l h)
-
-    turn : {at : ℕ} {es : List Event} → Reached trace at es
-        → ((e : Event) (next : ℕ) → readAt trace at ≡ Got e next → Ends (es ++ e ∷ []) (readFrom trace next))
-        → (r : Read) → readAt trace at ≡ r → Ends es (readFrom trace at)
-    turn {at} {es} h rest End q = subst (Ends es) (sym (from-end trace at q)) (ends-here h (subst (Explained trace at) q (read-explained trace at)))
-    turn {at} {es} h rest (Bad refusal) q = subst (Ends es) (sym (from-bad trace at refusal q)) (λ size. rows2to6 size h (faulty-only trace at q))
-    turn {at} {es} h rest (Got e next) q = subst (Ends es) (sym (from-got trace at e next q)) (ends-ahead es e (readFrom trace next) (rest e next q))
-
-    walk : (most : ℕ) {at : ℕ} {es : List Event} → Reached trace at es → remaining trace at ≤ most → Ends es (readFrom trace at)
-    walk zero {at} {es} h l = subst (Ends es) (sym (from-end trace at (read-end trace at (omega arith)))) (ends-here h (omega arith))
-    walk (suc most) {at} {es} h l =
-        turn h
-        (λ e next q. let w = got-within trace at e next q in walk most (past h (whole-only trace at q)) (omega arith))
-        (readAt trace at) refl
-
-    ends : Ends [] (readTrace trace)
-    ends = walk (length trace) start (omega arith)
-
-    -- then
-    pub refuses-then : {refusal : Refusal} → Refuses trace room refusal → judged trace room ≡ refused refusal
-    unfolding judged
-    refuses-then (row1 h) = simp (lt-ltb _ _ h)
-    refuses-then (rows2to6 size h f) = rw (le-ltb _ _ size, faulty-reads h f)
-    refuses-then (row7 size h l) = rw (le-ltb _ _ size, sound-then h, lt-ltb _ _ l)
-
-    pub accepts-then : {es : List Event} → Accepts trace room es → judged trace room ≡ events es
-    unfolding judged
-    accepts-then a = rw (le-ltb _ _ (a .size), sound-then (a .records), le-ltb _ _ (a .enough))
-
-    -- only then: what the run is judged to be, by the table
-    abbrev Judged : Trace → Type 0
-    Judged (events es) = Accepts trace room es
-    Judged (refused refusal) = Refuses trace room refusal
-
-    with-room : (t : Trace) → length trace ≤ 16777216 → Ends [] t → Judged (withRoom (length trace) room t)
-    with-room (events es) size h =
-        by-test Judged (ltb room (4 * countOf es)) _ _ (λ l. row7 size h (ltb-true _ _ l))
-        (λ l. record { size = size; records = h; enough = ltb-false _ _ l })
-    with-room (refused refusal) size h = h size
-
-    judged-so : Judged (judged trace room)
-    unfolding judged
-    judged-so =
-        by-test Judged (ltb 16777216 (length trace)) _ _ (λ l. row1 (ltb-true _ _ l))
-        (λ l. with-room (readTrace trace) (ltb-false _ _ l) ends)
-
-    pub refuses-only : {refusal : Refusal} → judged trace room ≡ refused refusal → Refuses trace room refusal
-    refuses-only q = subst Judged q judged-so
-
-    pub accepts-only : {es : List Event} → judged trace room ≡ events es → Accepts trace room es
-    accepts-only q = subst Judged q judged-so
-
--- the same of the whole run: what it returns, and the lent bytes
 module _ (trace lent : List ℕ) (t : Oep060Timing) where
   pub run-refused : {refusal : Refusal} → Refuses trace (length lent) refusal → runTraceOf trace lent t ≡ outcome (refusedOf refusal t) lent
   unfolding runTraceOf

@@ -17,15 +17,10 @@ use Rattle.step.specs.declared.Stepped.{Stepped}
 use Rattle.step.specs.Events.{State, retiringOf, after, retirements, costs, finally, total}
 use Rattle.step.specs.Crate.{crateCache, crateBoard}
 use Rattle.step.specs.Step.{stateOf, timingOf, steppedBy, steppedOf, afterOf, seenOf}
-use Rattle.outcome.specs.declared.Verdict.the-variants.{Accepted}
-use Rattle.outcome.specs.declared.Ran.{Ran}
 use Rattle.outcome.specs.Runs.{refusedOf}
-use Rattle.trace.specs.Trace.{Trace, events, refused, ahead, countOf}
-use Rattle.trace.specs.Run.{costBytes, Outcome, outcome, outcomeOf, Fits}
-use Rattle.trace.proofs.Counting.{count-cons}
-
-abbrev pub ranAt : ℕ → ℕ → Oep060Timing → Ran
-ranAt k sum t = record { verdict = Accepted; count = k; total = sum; timing = t }
+use Rattle.records.specs.Trace.{Trace, events, refused, ahead, countOf}
+use Rattle.records.specs.Judged.{Fits}
+use Rattle.trace.specs.Run.{costBytes, Outcome, outcome, ranAt, outcomeOf}
 
 -- the outcome where k costs are written already, their sum is `sum`, and the rest is to be run from t
 abbrev pub outcomeFrom : List ℕ → ℕ → ℕ → Oep060Timing → Trace → Outcome
@@ -70,11 +65,3 @@ run-quiet lent k sum t Broken (events es) z f = refl
 run-quiet lent k sum t ClearedAll (events es) z f = refl
 run-quiet lent k sum t ClearedUser (events es) z f = refl
 run-quiet lent k sum t e (refused refusal) z f = absurd f
-
-pub fits-ahead : (k room : ℕ) (e : Event) (said : Trace) → Fits k room (ahead e said) → Fits (k + countOf (e ∷ [])) room said
-fits-ahead k room e (events es) h = omega (arith, count-cons e es)
-fits-ahead k room e (refused refusal) h = h
-
-pub fits-room : (k room : ℕ) (said : Trace) → Fits k room said → k * 4 ≤ room
-fits-room k room (events es) h = omega arith
-fits-room k room (refused refusal) h = absurd h

@@ -3,8 +3,8 @@
 use mathlib.Core.Path.{_≡_, refl, sym, ap, ap₂, _∙_}
 use mathlib.Core.Bool.{Bool, true, false, cond}
 use mathlib.Core.List.{List, [], _∷_}
-use Rattle.dispatch.specs.declared.Window.{Window}
-use Rattle.dispatch.specs.Windows.{shut, seen}
+use Rattle.window.specs.declared.Window.{Window}
+use Rattle.window.specs.Windows.{shut, seen}
 use Rattle.pairing.proofs.Seen.{seen-cost, seen-window, next-seen}
 use Rattle.step.specs.declared.Event.{Event}
 use Rattle.step.specs.declared.Event.the-variants.{Retired, Broken, ClearedAll, ClearedUser}

@@ -6,18 +6,13 @@
 --   nextOf t es                ==  the state after the events es, from the state t as it is read
 --   Outcome                    ==  what is returned, together with the lent bytes afterwards
 --   outcome r bytes            ==  the outcome of these two
+--   ranAt k sum t              ==  what is returned where the trace is accepted: k costs, their sum, and the next state t
 --   acceptedOf es lent t       ==  the outcome where the trace is accepted              "gives the number of retirements and the 64-bit total";
 --                                                                                       "Places beyond the last cost stay"
 --   outcomeOf said lent t      ==  the outcome by what the trace said                   "A refused run or batch .. writes no byte"
---   withRoom size room said    ==  what a trace of this size said, or refusal 7         "under 4 bytes a retirement"; place "trace length"
---   judged trace room          ==  what the trace says, refusals by size included       "Trace order: 1; then record by record 2 to 6;
---                                                                                       7 after all records"
 --   runTraceOf trace lent t    ==  the outcome of a run of the trace into the lent bytes from the state t
---   Fits written room said     ==  the rest of a trace has room behind so many costs that are written already
-use Prim.Native.Nat.{ℕ, _+_, _*_, _≤_}
-use mathlib.Core.Bool.{cond}
+use Prim.Native.Nat.{ℕ}
 use mathlib.Core.List.{List, [], _∷_, _++_}
-use lib.Dec.{ltb}
 use lib.ListN.{length}
 use Rattle.little_endian.specs.Numbers.{bytesOf, putAt}
 use Rattle.step.specs.declared.Event.{Event}
@@ -25,11 +20,11 @@ use Rattle.step.specs.declared.Oep060Timing.{Oep060Timing}
 use Rattle.step.specs.Events.{costs, finally, total}
 use Rattle.step.specs.Crate.{crateBoard}
 use Rattle.step.specs.Step.{stateOf, timingOf, seenOf}
-use Rattle.outcome.specs.declared.Refusal.the-variants.{Oversized, Room}
-use Rattle.outcome.specs.declared.Verdict.the-variants.{Accepted}
+use Rattle.refusals.specs.declared.Verdict.the-variants.{Accepted}
 use Rattle.outcome.specs.declared.Ran.{Ran}
 use Rattle.outcome.specs.Runs.{refusedOf}
-use Rattle.trace.specs.Trace.{Trace, events, refused, readTrace, countOf}
+use Rattle.records.specs.Trace.{Trace, events, refused, countOf}
+use Rattle.records.specs.Judged.{judged}
 
 abbrev pub costBytes : List ℕ → List ℕ
 costBytes [] = []
@@ -48,27 +43,16 @@ pub record Outcome : Type 0 where
 abbrev pub outcome : Ran → List ℕ → Outcome
 outcome r bytes = record { ran = r; bytes = bytes }
 
+abbrev pub ranAt : ℕ → ℕ → Oep060Timing → Ran
+ranAt k sum t = record { verdict = Accepted; count = k; total = sum; timing = t }
+
 abbrev pub acceptedOf : List Event → List ℕ → Oep060Timing → Outcome
 acceptedOf es lent t =
-    outcome
-    (record { verdict = Accepted; count = countOf es; total = total (costsOf t es); timing = nextOf t es })
-    (putAt lent 0 (costBytes (costsOf t es)))
+    outcome (ranAt (countOf es) (total (costsOf t es)) (nextOf t es)) (putAt lent 0 (costBytes (costsOf t es)))
 
 abbrev pub outcomeOf : Trace → List ℕ → Oep060Timing → Outcome
 outcomeOf (events es) lent t = acceptedOf es lent t
 outcomeOf (refused refusal) lent t = outcome (refusedOf refusal t) lent
 
-abbrev pub withRoom : ℕ → ℕ → Trace → Trace
-withRoom size room (events es) = cond (ltb room (4 * countOf es)) (refused (Room size)) (events es)
-withRoom size room (refused refusal) = refused refusal
-
-unfoldable pub judged : List ℕ → ℕ → Trace
-judged trace room = cond (ltb 16777216 (length trace)) (refused Oversized) (withRoom (length trace) room (readTrace trace))
-
 unfoldable pub runTraceOf : List ℕ → List ℕ → Oep060Timing → Outcome
 runTraceOf trace lent t = outcomeOf (judged trace (length lent)) lent t
-
--- a refused trace is given no room
-abbrev pub Fits : ℕ → ℕ → Trace → Type 0
-Fits written room (events es) = 4 * (written + countOf es) ≤ room
-Fits written room (refused refusal) = ⊥

@@ -1,120 +1,67 @@
 // Part 6 of document 01: the run over a trace.
 ghost use mathlib.Core.Path.{_≡_};
-ghost use mathlib.Core.List.{[], _∷_};
 ghost use Prim.Native.Nat.{_≤_};
 ghost use lib.ListN.{length};
-ghost use Rattle.trace.specs.Trace.{checkedOf, countOf, readTrace};
-ghost use Rattle.trace.specs.Run.{outcome, outcomeOf, runTraceOf, Fits};
+ghost use Rattle.in_place.specs.Lent.{lent, stateAt};
+ghost use Rattle.records.specs.Trace.{readTrace};
+ghost use Rattle.records.specs.Judged.{Fits};
+ghost use Rattle.trace.specs.Run.{ranAt, outcome, outcomeOf, runTraceOf};
 use outcome::Ran;
-use outcome::Refusal;
-use outcome::Verdict;
-use record::Read;
-use step::Event;
+use refusals::Verdict;
 use step::Oep060Timing;
 
-// The longest trace that is taken.
-const MOST_BYTES: usize = 16777216;
-
-// What a check of all records finds: the number of retirements, or the first refusal.
-pub enum Checked {
-    Sound(usize),
-    Unsound(Refusal),
+// What the turns of all records come to.
+struct Sums {
+    count: usize,
+    total: u64,
 }
 
-// 1 for a retirement, 0 for any other event.
-fn counted(e: Event) -> usize
-    ensures { λ r. ⌜ r ≡ countOf (e ∷ []) ⌝ }
+// Runs a trace whose records are all sound and whose costs have room, on lent numbers.
+fn run_records(
+    trace: &[u8],
+    costs: &mut [u8],
+    tags: &mut [u32; 256],
+    state: &mut [u8; 256],
+    window: &mut [u16; 5],
+) -> Sums
+    requires { ⌜ length (now trace) ≤ 16777216 ⌝ }
+    requires { ⌜ Fits 0 (length (now costs)) (readTrace (now trace)) ⌝ }
+    ensures { λ r. ⌜ outcome (ranAt (r .count) (r .total) (stateAt (lent (now (tags .exit)) (now (state .exit)) (now (window .exit))))) (now (costs .exit))
+        ≡ outcomeOf (readTrace (now (trace .entry))) (now (costs .entry)) (stateAt (lent (now (tags .entry)) (now (state .entry)) (now (window .entry)))) ⌝ }
 {
-    match e {
-        Event::Retired(_) => 1,
-        Event::Broken => 0,
-        Event::ClearedAll => 0,
-        Event::ClearedUser => 0,
-    }
-}
-
-// Checks all records, and counts the retirements.
-fn check_all(trace: &[u8]) -> Checked
-    ensures { λ r. ⌜ r ≡ checkedOf (readTrace (now (trace .entry))) ⌝ }
-{
+    numbers::see_window(window);
     let mut at: usize = 0;
     let mut count: usize = 0;
-    loop {
-        let found = record::read_record(trace, at);
-        match found {
-            Read::End => {
-                return Checked::Sound(count);
-            }
-            Read::Bad(refusal) => {
-                return Checked::Unsound(refusal);
-            }
-            Read::Got(e, next) => {
-                count += counted(e);
-                at = next;
-            }
+    let mut total: u64 = 0;
+    while at < trace.len() {
+        let turn = running::run_record(trace, tags, state, window, at);
+        at = turn.next;
+        total += turn.cost as u64;
+        if 0 < turn.count {
+            little_endian::put_u32(costs, count * 4, turn.cost);
+            count += 1;
         }
     }
+    Sums { count, total }
 }
 
-// Runs a trace whose records are all sound and whose costs have room. The state is copied here once, and handed back once.
+// The same from a state and to the next one. The state is copied here once, and handed back once.
 fn run_all(trace: &[u8], costs: &mut [u8], timing: Oep060Timing) -> Ran
     requires { ⌜ length (now trace) ≤ 16777216 ⌝ }
     requires { ⌜ Fits 0 (length (now costs)) (readTrace (now trace)) ⌝ }
     ensures { λ r. ⌜ outcome r (now (costs .exit)) ≡ outcomeOf (readTrace (now (trace .entry))) (now (costs .entry)) timing ⌝ }
 {
-    let start = timing.seen();
-    let cache = start.cache;
-    let mut tags = cache.tags;
-    let mut state = cache.state;
+    let mut tags = timing.cache.tags;
+    let mut state = timing.cache.state;
     let mut window = [0; 5];
-    in_place::put_window(&mut window, start.window);
-    let mut at: usize = 0;
-    let mut count: usize = 0;
-    let mut total: u64 = 0;
-    loop {
-        let read = record::read_record(trace, at);
-        match read {
-            Read::End => {
-                let last = in_place::timing_at(tags, state, window);
-                return Ran {
-                    verdict: Verdict::Accepted,
-                    count,
-                    total,
-                    timing: last,
-                };
-            }
-            Read::Bad(refusal) => {
-                return outcome::refused(refusal, timing);
-            }
-            Read::Got(e, next) => {
-                at = next;
-                match e {
-                    Event::Retired(r) => {
-                        let cost = in_place::retire_in_place(&mut tags, &mut state, &mut window, r);
-                        little_endian::put_u32(costs, count * 4, cost);
-                        count += 1;
-                        total += cost as u64;
-                    }
-                    Event::Broken => {
-                        window = [0; 5];
-                    }
-                    Event::ClearedAll => {
-                        let cleared = in_place::timing_at(tags, state, window).clear_all();
-                        let cache = cleared.cache;
-                        tags = cache.tags;
-                        state = cache.state;
-                        in_place::put_window(&mut window, cleared.window);
-                    }
-                    Event::ClearedUser => {
-                        let cleared = in_place::timing_at(tags, state, window).clear_user();
-                        let cache = cleared.cache;
-                        tags = cache.tags;
-                        state = cache.state;
-                        in_place::put_window(&mut window, cleared.window);
-                    }
-                }
-            }
-        }
+    numbers::put_window(&mut window, timing.window);
+    let sums = run_records(trace, costs, &mut tags, &mut state, &mut window);
+    let last = in_place::timing_at(tags, state, window);
+    Ran {
+        verdict: Verdict::Accepted,
+        count: sums.count,
+        total: sums.total,
+        timing: last,
     }
 }
 
@@ -122,17 +69,9 @@ fn run_all(trace: &[u8], costs: &mut [u8], timing: Oep060Timing) -> Ran
 pub fn run_trace(trace: &[u8], costs: &mut [u8], timing: Oep060Timing) -> Ran
     ensures { λ r. ⌜ outcome r (now (costs .exit)) ≡ runTraceOf (now (trace .entry)) (now (costs .entry)) timing ⌝ }
 {
-    if MOST_BYTES < trace.len() {
-        return outcome::refused(Refusal::Oversized, timing);
-    }
-    let checked = check_all(trace);
-    match checked {
-        Checked::Unsound(refusal) => outcome::refused(refusal, timing),
-        Checked::Sound(count) => {
-            if costs.len() / 4 < count {
-                return outcome::refused(Refusal::Room(trace.len()), timing);
-            }
-            run_all(trace, costs, timing)
-        }
+    let verdict = records::judge(trace, costs.len());
+    match verdict {
+        Verdict::Refused(refusal) => outcome::refused(refusal, timing),
+        Verdict::Accepted => run_all(trace, costs, timing),
     }
 }

@@ -32,7 +32,7 @@ fn flowed(asked: &[u8], raw: i32) {
         op: 0x4E75,
         controls,
     };
-    let stepped = step::cycles_060(Oep060Timing::fresh(), rts);
+    let stepped = cycles::cycles_060(Oep060Timing::fresh(), rts);
     show(asked, stepped.cost.0);
 }
 

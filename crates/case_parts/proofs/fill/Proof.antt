@@ -9,19 +9,13 @@ use Rattle.case_parts.proofs.fill.Statement.{statement}
 use Rattle.case_parts.proofs.fill.Tie as tie
 
 abbrev Inv-loop : tie.InvT-loop
-Inv-loop lent₀ room i₀ lent i = (i ≤ room) × (length lent ≡ length lent₀)
+Inv-loop lent₀ i₀ lent i = (i ≤ length lent₀) × (length lent ≡ length lent₀)
 
 abbrev μ-loop : tie.MeasureT-loop
-μ-loop lent₀ room i₀ lent i = room - i
+μ-loop lent₀ i₀ lent i = length lent₀ - i
 
 loop-holds : tie.Need-loop-holds Inv-loop μ-loop
 loop-holds c = search needs
-
-same-length : tie.Need-same-length Inv-loop μ-loop
-same-length c = search needs
-
-returns : tie.Need-returns Inv-loop μ-loop
-returns c = search needs
 
 mul-lent : tie.Need-mul-lent Inv-loop μ-loop
 mul-lent c = search needs
@@ -42,13 +36,13 @@ loop-less : tie.Need-loop-less Inv-loop μ-loop
 loop-less c = search needs
 
 loop-again : tie.Need-loop-again Inv-loop μ-loop
-loop-again c = (omega arith, simp length-set (c .before .before .loop .inv .1))
+loop-again c = (omega arith, simp length-set (c .before .loop .inv .1))
 
-same-length-2 : tie.Need-same-length-2 Inv-loop μ-loop
-same-length-2 c = search needs
+same-length : tie.Need-same-length Inv-loop μ-loop
+same-length c = search needs
 
-returns-2 : tie.Need-returns-2 Inv-loop μ-loop
-returns-2 c = search needs
+returns : tie.Need-returns Inv-loop μ-loop
+returns c = search needs
 
 pub fill-spec : {M : Type 1} → statement M
 fill-spec =
@@ -57,8 +51,6 @@ fill-spec =
     Inv-loop
     μ-loop
     loop-holds
-    same-length
-    returns
     mul-lent
     add-lent
     cast-lent
@@ -66,5 +58,5 @@ fill-spec =
     add-i
     loop-less
     loop-again
-    same-length-2
-    returns-2)
+    same-length
+    returns)

@@ -1,13 +1,14 @@
 -- `read_part`: the part is within the buffer.
 -- Assumes nothing.
 use mathlib.Core.Path.{sym}
+use mathlib.Core.Bool.{true≢false}
 use lib.Seq.{length-take-le}
 use borrow.Author.Needs.{needs}
 use Rattle.case_parts.proofs.read_part.Statement.{statement}
 use Rattle.case_parts.proofs.read_part.Tie as tie
 
 returns : tie.Need-returns
-returns c = search needs
+returns c h = absurd (true≢false (sym h))
 
 slice-relend-prefix-read-full : tie.Need-slice-relend-prefix-read-full
 slice-relend-prefix-read-full c = search needs

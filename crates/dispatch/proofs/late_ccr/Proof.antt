@@ -1,6 +1,6 @@
 -- `late_ccr`: the two tests are the definition's.
 -- Assumes nothing.
-use mathlib.Core.Path.{sym}
+use mathlib.Core.Path.{sym, _∙_}
 use borrow.Author.Needs.{needs}
 use Rattle.dispatch.proofs.late_ccr.Statement.{statement}
 use Rattle.dispatch.proofs.late_ccr.Tie as tie
@@ -9,10 +9,10 @@ has-requires : tie.Need-has-requires
 has-requires c κs = search needs
 
 returns : tie.Need-returns
-returns c = simp (sym (c .before .has .ensures), c .if1 .taken)
+returns c = rw (sym (c .before .has .ensures) ∙ c .if1 .taken)
 
 returns-2 : tie.Need-returns-2
-returns-2 c = simp (sym (c .before .has .ensures), c .if1 .left)
+returns-2 c = rw (sym (c .before .has .ensures) ∙ c .if1 .left)
 
 pub late-ccr-spec : {M : Type 1} → statement M
 late-ccr-spec = tie.close (tie.spec has-requires returns returns-2)

@@ -18,7 +18,7 @@ host-ran-requires c κs = search needs
 returns : tie.Need-returns
 returns c =
     rw (c .host-ran .ensures, c .before .put-timing .ensures)
-    (ap hostStateOf (c .before .before .before .before .before .before .image-read .ensures))
+    (ap hostStateOf (c .before .before .before .before .before .image-read .ensures))
 
 pub timing-060-image-read-at-spec : {M : Type 1} → statement M
 timing-060-image-read-at-spec =

@@ -24,7 +24,7 @@ same-length c = search needs
 
 returns : tie.Need-returns
 returns c =
-    let k = c .before .before .before .before .before .before .before .before in
+    let k = c .before .before .before .before .before .before .before in
     let g = k .before .before in
     let a = g .before .before .before .before .before .before .args in
     rw (c .host-ran .ensures, c .before .put-timing .ensures)

@@ -4,7 +4,7 @@ use mathlib.Core.Path.{_≡_, sym, _∙_}
 use mathlib.Core.List.{List}
 use Prim.Native.Nat.{ℕ}
 use native.Mathlib.Omega.{arith}
-use Rattle.outcome.specs.declared.Verdict.the-variants.{Accepted}
+use Rattle.refusals.specs.declared.Verdict.the-variants.{Accepted}
 use Rattle.image.specs.Entries.{judgedOf}
 use Rattle.image.proofs.Refusals.{image-judged, image-by}
 use borrow.Author.Needs.{needs}

@@ -7,10 +7,11 @@ use borrow.Author.Needs.{needs}
 use Rattle.class_word.specs.Word.{has, clocks, DBCC}
 use Rattle.dispatch.specs.declared.Instruction.{Instruction}
 use Rattle.dispatch.specs.declared.Controls.{Controls}
-use Rattle.dispatch.specs.declared.Window.{Window}
-use Rattle.pairing.specs.declared.Answer.the-variants.{NotConsulted}
-use Rattle.pairing.specs.Retiring.{takenOf, otherKind}
-use Rattle.pairing.specs.Cost.{branchCost, chargedBy}
+use Rattle.window.specs.declared.Window.{Window}
+use Rattle.branching.specs.declared.Answer.the-variants.{NotConsulted}
+use Rattle.pairing.specs.Retiring.{otherKind}
+use Rattle.branching.specs.Branch.{takenOf, branchCost}
+use Rattle.pairing.specs.Cost.{chargedBy}
 use Rattle.step.specs.Step.{steppedBy}
 use Rattle.in_place.specs.Lent.{lent, stateAt}
 use Rattle.in_place.specs.Retire.{paidOf}

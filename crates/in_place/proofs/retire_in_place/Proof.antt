@@ -6,7 +6,7 @@ use mir.Syntax.{w32}
 use Rattle.dispatch.specs.declared.Controls.{Controls}
 use Rattle.in_place.specs.Lent.{lent}
 use Rattle.in_place.specs.Retire.{retireAtOf}
-use Rattle.in_place.proofs.Held.{controls-held}
+use Rattle.flags.proofs.Held.{controls-held}
 use borrow.Author.Needs.{needs}
 use Rattle.in_place.proofs.retire_in_place.Statement.{statement}
 use Rattle.in_place.proofs.retire_in_place.Tie as tie

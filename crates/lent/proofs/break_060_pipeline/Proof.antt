@@ -34,14 +34,14 @@ use denote.Triple.Entry.{onEntry}
 use denote.Triple.Spec.{Meets, tripleOf}
 use denote.Triple.Table.{entered, cited}
 use denote.Triple.Walked.{says, Stays, stay-ref, walkOf, AllGo, goes-ref, Walks, ends-at, walked, walk-meets}
-use Rattle.dispatch.specs.Windows.{shut as shutOf}
-use Rattle.dispatch.specs.declared.Window.{Window}
-use Rattle.dispatch.proofs.Window as T
-use Rattle.dispatch.proofs.Window.Laws as T′
-use Rattle.dispatch.proofs.Window.shut as shut
-use Rattle.dispatch.proofs.Window.shut.Symbol as shut-def
-use Rattle.dispatch.proofs.Window.shut.Symbol.{name as #shut}
-use Rattle.dispatch.proofs.Window.shut.Met as shut-thm
+use Rattle.window.specs.Windows.{shut as shutOf}
+use Rattle.window.specs.declared.Window.{Window}
+use Rattle.window.proofs.Window as T
+use Rattle.window.proofs.Window.Laws as T′
+use Rattle.window.proofs.Window.shut as shut
+use Rattle.window.proofs.Window.shut.Symbol as shut-def
+use Rattle.window.proofs.Window.shut.Symbol.{name as #shut}
+use Rattle.window.proofs.Window.shut.Met as shut-thm
 use Rattle.lent.proofs.break_060_pipeline.Key.{name as #break}
 use Rattle.lent.proofs.break_060_pipeline as f
 use Rattle.lent.proofs.break_060_pipeline.Statement as stated
@@ -129,4 +129,4 @@ break-060-pipeline-spec 𝓤 H 𝓜 𝓖 𝓡 =
     entered 𝓤 H (tripleOf 𝓤 H (𝓖 .A) f.signature (f.spec 𝓤 H (𝓖 .A) (𝓜 .mem) (𝓡 .run)))
     (tables 𝓤 H 𝓜 𝓡 code.env .C) (tables 𝓤 H 𝓜 𝓡 code.env .Λ) #break code.function (code.unfolded 𝓤 H 𝓜 𝓡)
     (break-meets 𝓤 H (𝓖 .A) (givenOf 𝓤 H 𝓜 𝓖) (𝓜 .mem) (𝓡 .run) (tablesOf 𝓤 H 𝓜 (tables 𝓤 H 𝓜 𝓡 code.env))
-    (cited 𝓤 H (Shut 𝓤 H (𝓖 .A) (𝓜 .mem) (𝓡 .run)) 𝓜 𝓡 code.env #shut shut-def.routine code.calls-dispatch·Window·shut (shut-thm.met 𝓤 H 𝓜 𝓖 𝓡)))
+    (cited 𝓤 H (Shut 𝓤 H (𝓖 .A) (𝓜 .mem) (𝓡 .run)) 𝓜 𝓡 code.env #shut shut-def.routine code.calls-window·Window·shut (shut-thm.met 𝓤 H 𝓜 𝓖 𝓡)))

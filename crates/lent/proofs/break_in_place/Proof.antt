@@ -38,10 +38,10 @@ use denote.Triple.Spec.{Meets, tripleOf}
 use denote.Triple.Table.{entered, cited}
 use denote.Triple.Walked.{says, Stays, stay-none, walkOf, goes-none, Walks, ends-at, walked, walk-meets}
 use denote.Exit.{yes}
-use Rattle.dispatch.specs.Windows.{shut}
-use Rattle.dispatch.specs.declared.Window.{Window}
-use Rattle.dispatch.proofs.Window as T
-use Rattle.dispatch.proofs.Window.Laws as T′
+use Rattle.window.specs.Windows.{shut}
+use Rattle.window.specs.declared.Window.{Window}
+use Rattle.window.proofs.Window as T
+use Rattle.window.proofs.Window.Laws as T′
 use Rattle.lent.proofs.break_060_pipeline as g
 use Rattle.lent.proofs.break_060_pipeline.Symbol as g-def
 use Rattle.lent.proofs.break_060_pipeline.Symbol.{name as #break}

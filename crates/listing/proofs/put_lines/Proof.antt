@@ -9,7 +9,7 @@ use lib.ListN.{length}
 use Rattle.step.specs.declared.Event.{Event}
 use Rattle.record.specs.declared.Read.the-variants.{Got}
 use Rattle.record.specs.Record.{readAt}
-use Rattle.trace.specs.Trace.{countOf}
+use Rattle.records.specs.Trace.{countOf}
 use Rattle.listing.proofs.Lines.{Going, going-end, going-bad, going-nearer, going-quiet, going-cost, going-room, going-line}
 use Rattle.listing.proofs.put_lines.Statement.{statement}
 use Rattle.listing.proofs.put_lines.Tie as tie

@@ -13,11 +13,12 @@ use Rattle.bits.specs.Fields.{modeOf, regOf, dstRegOf}
 use Rattle.bits.specs.Pattern.{matches}
 use Rattle.bits.proofs.Patterns.{masked, hit, miss}
 use Rattle.bits.proofs.Rows.{Left, begin, skip, found, last}
-use Rattle.masks.specs.Registers.{D, A, maskOfRegs}
+use Rattle.registers.specs.Registers.{D, A, maskOfRegs}
 use Rattle.bits.specs.Instructions.{lea, tst}
-use Rattle.masks.specs.Masks.{uses_defines_, operandSets, dataOperand, group4Rows, group4Sets, maskPair}
-use Rattle.masks.proofs.Registers.{mask-only}
-use Rattle.masks.proofs.Sets.{pair, pair-uses, pair-and-defs, mask-where, mask-unless}
+use Rattle.registers.specs.Operands.{uses_defines_, operandSets, maskPair}
+use Rattle.masks.specs.Masks.{dataOperand, group4Rows, group4Sets}
+use Rattle.registers.proofs.Registers.{mask-only}
+use Rattle.registers.proofs.Sets.{pair, pair-uses, pair-and-defs, mask-where, mask-unless}
 use Rattle.masks.proofs.group4_masks.Statement.{statement}
 use Rattle.masks.proofs.group4_masks.Tie as tie
 

@@ -4,7 +4,7 @@ use mathlib.Core.Path.{sym, ap, ap₂, _∙_}
 use borrow.Author.Needs.{needs}
 use Rattle.class_word.specs.declared.Clocks.{Clocks}
 use Rattle.class_word.specs.Word.{clocks}
-use Rattle.dispatch.specs.declared.Window.{Window}
+use Rattle.window.specs.declared.Window.{Window}
 use Rattle.pairing.specs.declared.Charged.{Charged}
 use Rattle.pairing.specs.declared.Retired.{Retired}
 use Rattle.pairing.specs.Retiring.{Kind, otherKind}

@@ -2,7 +2,7 @@
 -- Assumes nothing.
 use mathlib.Core.Path.{sym, ap, _∙_}
 use native.Mathlib.Omega.{arith}
-use Rattle.record.specs.Kinds.{kindOf}
+use Rattle.kinds.specs.Kinds.{kindOf}
 use Rattle.record.specs.Record.{bodyAt}
 use Rattle.record.proofs.Reading.{read-end, read-remainder, read-body}
 use borrow.Author.Needs.{needs}

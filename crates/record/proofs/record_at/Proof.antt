@@ -10,10 +10,10 @@ use lib.ListN.{length}
 use borrow.Author.Tests.{lt-ltb, le-ltb}
 use Rattle.step.specs.declared.Event.{Event}
 use Rattle.step.specs.declared.Event.the-variants.{Retired}
-use Rattle.outcome.specs.declared.Refusal.the-variants.{Length, Cut, Flag}
-use Rattle.record.specs.declared.Kind.{Kind}
+use Rattle.refusals.specs.declared.Refusal.the-variants.{Length, Cut, Flag}
+use Rattle.kinds.specs.declared.Kind.{Kind}
 use Rattle.record.specs.declared.Read.the-variants.{Got, Bad}
-use Rattle.record.specs.Kinds.{payloadLength}
+use Rattle.kinds.specs.Kinds.{payloadLength}
 use Rattle.record.specs.Record.{lengthAt, eventAt, highFlag, recordAt}
 use Rattle.record.proofs.Reading.{record-length, record-cut, record-flag, record-whole}
 use borrow.Author.Needs.{needs}

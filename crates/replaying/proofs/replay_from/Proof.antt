@@ -1,10 +1,10 @@
 -- `replay_from`: a refusal is all of the text; else the image of the next state follows.
 -- Assumes nothing.
-use mathlib.Core.Path.{_≡_, refl}
+use mathlib.Core.Path.{_≡_}
 use native.Mathlib.Omega.{arith}
 use lib.ListN.{length}
 use Rattle.listing.specs.Listing.{judgedOf}
-use Rattle.replaying.proofs.Replaying.{image-fills, shown-refused, replay-room, replay-shown}
+use Rattle.replaying.proofs.Replaying.{shown-refused, replay-room, replay-shown}
 use borrow.Author.Needs.{needs}
 use Rattle.replaying.proofs.replay_from.Statement.{statement}
 use Rattle.replaying.proofs.replay_from.Tie as tie
@@ -24,20 +24,11 @@ enum-told c = search needs
 enum-told-2 : tie.Need-enum-told-2
 enum-told-2 c = search needs
 
-slice-aggregate-image-write : tie.Need-slice-aggregate-image-write
-slice-aggregate-image-write c = search needs
-
-image-write-requires : tie.Need-image-write-requires
-image-write-requires c κs = search needs
-
-slice-aggregate-put-rows : tie.Need-slice-aggregate-put-rows
-slice-aggregate-put-rows c = search needs
-
-put-rows-requires : tie.Need-put-rows-requires
-put-rows-requires c κs =
-    let d = c .before .before .before .before .before .before .before .before .before .before in
-    let r = replay-room _ _ _ (d .list-into .ensures) (c .before .before .before .before .before .enum-told2 .given .1) in
-    (c .before .before .before .image-write .kept .1 .0, omega (arith, d .list-into .kept .1 .0, c .before .before .before .before .before .before .before .before .before .before .before .before .before .before .pre))
+put-image-requires : tie.Need-put-image-requires
+put-image-requires c κs =
+    let d = c .before .before .before .before .before .before in
+    let r = replay-room _ _ _ (d .list-into .ensures) (c .before .enum-told2 .given .1) in
+    omega (arith, d .list-into .kept .1 .0, c .before .before .before .before .before .before .before .before .before .before .pre)
 
 same-length : tie.Need-same-length
 same-length c = search needs
@@ -52,9 +43,8 @@ same-length-2 c = search needs
 
 returns-2 : tie.Need-returns-2
 returns-2 c =
-    let d = c .before .before .before .before .before .before .before .before .before .before .before .before .before in
-    replay-shown _ _ _ (d .list-into .ensures) (c .before .before .before .before .before .before .before .before .enum-told2 .given .1) (c .before .before .before .before .before .before .before .before .before .before .before .before .before .before .before .before .before .pre) (tags d) (slots d)
-    (image-fills _ _ refl (tags d) (slots d) (c .before .before .before .before .before .before .image-write .ensures)) (c .before .before .put-rows .ensures)
+    let d = c .before .before .before .before .before .before .before .before .before in
+    replay-shown _ _ _ (d .list-into .ensures) (c .before .before .before .before .enum-told2 .given .1) (c .before .before .before .before .before .before .before .before .before .before .before .before .before .pre) (tags d) (slots d) (c .before .before .put-image .ensures)
 
 pub replay-from-spec : {M : Type 1} → statement M
 replay-from-spec =
@@ -63,10 +53,7 @@ replay-from-spec =
     list-into-requires
     enum-told
     enum-told-2
-    slice-aggregate-image-write
-    image-write-requires
-    slice-aggregate-put-rows
-    put-rows-requires
+    put-image-requires
     same-length
     returns
     same-length-2

@@ -15,13 +15,13 @@ use denote.Triple.Clauses.{ensured, lasts}
 use denote.Triple.Spec.{tripleOf}
 use Rattle.step.specs.declared.Oep060Timing.{Oep060Timing}
 use Rattle.outcome.specs.declared.Ran.{Ran}
-use Rattle.batch.specs.declared.Carried.{Carried}
-use Rattle.batch.specs.declared.Judged.{Judged}
-use Rattle.batch.specs.Turns.{judgedOf, beginOf, finishOf}
-use Rattle.batch.proofs.judge as judge
-use Rattle.batch.proofs.begin as begin
-use Rattle.batch.proofs.finish as finish
-use Rattle.batch.proofs.turn as turn
+use Rattle.turns.specs.declared.Carried.{Carried}
+use Rattle.turns.specs.declared.Judged.{Judged}
+use Rattle.turns.specs.Turns.{judgedOf, beginOf, finishOf}
+use Rattle.turns.proofs.judge as judge
+use Rattle.turns.proofs.begin as begin
+use Rattle.turns.proofs.finish as finish
+use Rattle.turns.proofs.turn as turn
 
 -- the contracts that the proof cites, and of `ensured` the clause alone
 module _ {M : Type 1} (𝓤 : URA M) (H : Heap 𝓤) (A : Atoms 𝓤) (mem : Memory → SProp 𝓤) (run : Routine → Fun 𝓤) where

@@ -33,15 +33,15 @@ use denote.Struct.Laws as LL
 use denote.Triple.Call.{calls-at}
 use denote.Triple.Clauses.{ensured, lasts}
 use Rattle.step.specs.declared.Retirement.{Retirement}
-use Rattle.batch.specs.declared.Carried.{Carried}
+use Rattle.turns.specs.declared.Carried.{Carried}
 use Rattle.step.proofs.Retirement as R
 use Rattle.step.proofs.Retirement.Laws as R′
-use Rattle.batch.proofs.Carried as C
-use Rattle.batch.proofs.Carried.Laws as C′
+use Rattle.turns.proofs.Carried as C
+use Rattle.turns.proofs.Carried.Laws as C′
 use Rattle.batch.proofs.Loop.{none, one-more, is-fewer, fewer, Turned, onward}
 use Rattle.batch.proofs.Again.{LentAgain, lends-again, comes-back}
 use Rattle.batch.proofs.Locals.{Arr}
-use Rattle.batch.proofs.turn as turn
+use Rattle.turns.proofs.turn as turn
 use Rattle.batch.proofs.run_batch.Code.Mir as code-mir
 use Rattle.batch.proofs.run_batch.Proof.Values.{rvals, told, offset-fits, next-fits}
 use Rattle.batch.proofs.run_batch.Proof.Cited.{Turn}

@@ -1,0 +1,2 @@
+-- The controls of a retirement as numbers, its flags as one. One file.
+pub mod Flags

@@ -1,0 +1,2 @@
+-- The retirements that cost 0. One file.
+pub mod Free

@@ -1,0 +1,2 @@
+-- Hexadecimal digits. One file.
+pub mod Hex

@@ -1,0 +1,26 @@
+-- `addx_subx`: the fixed flags, or-ed with the operand's, are the entry's sum.
+-- Assumes nothing.
+use mathlib.Core.Path.{refl, _∙_}
+use mathlib.Core.Bool.{true}
+use native.Mathlib.Omega.{arith}
+use borrow.Author.Needs.{needs}
+use Rattle.bits.specs.Fields.{modeOf, regOf}
+use Rattle.class_word.specs.declared.OepClass.the-variants.{PoepOnly}
+use Rattle.operand.specs.Entry.{ea}
+use Rattle.operand.proofs.Flags.{entry-packed}
+use Rattle.high_groups.proofs.addx_subx.Statement.{statement}
+use Rattle.high_groups.proofs.addx_subx.Tie as tie
+
+flags-of-requires : tie.Need-flags-of-requires
+flags-of-requires c κs = search needs
+
+poep-only-requires : tie.Need-poep-only-requires
+poep-only-requires c κs = search needs
+
+returns : tie.Need-returns
+returns c =
+    let a = c .before .before .args in
+    c .poep-only .ensures ∙ entry-packed PoepOnly 1 3072 (omega arith) refl refl (ea (modeOf (a .op)) (regOf (a .op)) true true) (c .before .flags-of .ensures)
+
+pub addx-subx-spec : {M : Type 1} → statement M
+addx-subx-spec = tie.close (tie.spec flags-of-requires poep-only-requires returns)

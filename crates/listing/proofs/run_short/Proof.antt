@@ -1,0 +1,26 @@
+-- `run_short`: the size, then the run; within the limit it has room for all costs.
+-- Assumes nothing.
+use mathlib.Core.Path.{_∙_}
+use borrow.Author.Needs.{needs}
+use Rattle.listing.proofs.Listing.{judged-large, run-small}
+use Rattle.listing.proofs.run_short.Statement.{statement}
+use Rattle.listing.proofs.run_short.Tie as tie
+
+refused-requires : tie.Need-refused-requires
+refused-requires c κs = search needs
+
+returns : tie.Need-returns
+returns c = rw (judged-large _ (c .before .if1 .taken), c .refused .ensures)
+
+run-trace-requires : tie.Need-run-trace-requires
+run-trace-requires c κs = search needs
+
+same-length : tie.Need-same-length
+same-length c = search needs
+
+returns-2 : tie.Need-returns-2
+returns-2 c = c .before .before .run-trace .ensures ∙ run-small _ (c .before .before .before .before .if1 .left) _ _ (c .before .before .before .before .before .before .before .pre)
+
+pub run-short-spec : {M : Type 1} → statement M
+run-short-spec =
+    tie.close (tie.spec refused-requires returns run-trace-requires same-length returns-2)

@@ -1,0 +1,26 @@
+-- `scc`: the fixed flag, or-ed with the operand's, is the entry's sum.
+-- Assumes nothing.
+use mathlib.Core.Path.{refl, _∙_}
+use mathlib.Core.Bool.{true, false}
+use native.Mathlib.Omega.{arith}
+use borrow.Author.Needs.{needs}
+use Rattle.bits.specs.Fields.{modeOf, regOf}
+use Rattle.class_word.specs.declared.OepClass.the-variants.{PoepSoep}
+use Rattle.operand.specs.Entry.{ea}
+use Rattle.operand.proofs.Flags.{entry-packed}
+use Rattle.low_groups.proofs.scc.Statement.{statement}
+use Rattle.low_groups.proofs.scc.Tie as tie
+
+flags-of-requires : tie.Need-flags-of-requires
+flags-of-requires c κs = search needs
+
+new-requires : tie.Need-new-requires
+new-requires c κs = search needs
+
+returns : tie.Need-returns
+returns c =
+    let a = c .before .before .args in
+    c .new .ensures ∙ entry-packed PoepSoep 1 2048 (omega arith) refl refl (ea (modeOf (a .op)) (regOf (a .op)) false true) (c .before .flags-of .ensures)
+
+pub scc-spec : {M : Type 1} → statement M
+scc-spec = tie.close (tie.spec flags-of-requires new-requires returns)

@@ -1,0 +1,72 @@
+// Part 6 of document 01: the records of a whole trace, all of which are checked before any is run.
+ghost use mathlib.Core.Path.{_≡_};
+ghost use mathlib.Core.List.{[], _∷_};
+ghost use Rattle.records.specs.Trace.{checkedOf, countOf, readTrace};
+ghost use Rattle.records.specs.Judged.{judged, verdictOf};
+use record::Read;
+use refusals::Refusal;
+use refusals::Verdict;
+use step::Event;
+
+// The longest trace that is taken.
+const MOST_BYTES: usize = 16777216;
+
+// What a check of all records finds: the number of retirements, or the first refusal.
+pub enum Checked {
+    Sound(usize),
+    Unsound(Refusal),
+}
+
+// 1 for a retirement, 0 for any other event.
+fn counted(e: Event) -> usize
+    ensures { λ r. ⌜ r ≡ countOf (e ∷ []) ⌝ }
+{
+    match e {
+        Event::Retired(_) => 1,
+        Event::Broken => 0,
+        Event::ClearedAll => 0,
+        Event::ClearedUser => 0,
+    }
+}
+
+// Checks all records, and counts the retirements.
+fn check_all(trace: &[u8]) -> Checked
+    ensures { λ r. ⌜ r ≡ checkedOf (readTrace (now (trace .entry))) ⌝ }
+{
+    let mut at: usize = 0;
+    let mut count: usize = 0;
+    loop {
+        let found = record::read_record(trace, at);
+        match found {
+            Read::End => {
+                return Checked::Sound(count);
+            }
+            Read::Bad(refusal) => {
+                return Checked::Unsound(refusal);
+            }
+            Read::Got(e, next) => {
+                count += counted(e);
+                at = next;
+            }
+        }
+    }
+}
+
+// Whether a trace is taken with so many bytes lent for its costs, 4 for each retirement.
+pub fn judge(trace: &[u8], room: usize) -> Verdict
+    ensures { λ r. ⌜ r ≡ verdictOf (judged (now (trace .entry)) room) ⌝ }
+{
+    if MOST_BYTES < trace.len() {
+        return Verdict::Refused(Refusal::Oversized);
+    }
+    let checked = check_all(trace);
+    match checked {
+        Checked::Unsound(refusal) => Verdict::Refused(refusal),
+        Checked::Sound(count) => {
+            if room / 4 < count {
+                return Verdict::Refused(Refusal::Room(trace.len()));
+            }
+            Verdict::Accepted
+        }
+    }
+}

@@ -1,0 +1,128 @@
+-- `run_records`: the run as it goes on (`Going`), turn by turn, from the window as it is read. The measure is what is left.
+-- Assumes nothing.
+use Prim.Native.Nat.{_-_, _^_, _<_}
+use mathlib.Core.Path.{_∙_}
+use native.Mathlib.Omega.{arith}
+use borrow.Author.Needs.{needs}
+use lib.ListN.{length}
+use Rattle.in_place.specs.Lent.{Lent, lent, stateAt}
+use Rattle.numbers.specs.Windows.{windowAt}
+use Rattle.record.proofs.Reading.{read-end}
+use Rattle.records.specs.Trace.{readTrace}
+use Rattle.trace.proofs.Going.{Going, going-start, going-end, going-total}
+use Rattle.trace.proofs.Turning.{turn-gone}
+use Rattle.trace.proofs.Starting.{seen-held, seen-start, outcome-seen}
+use Rattle.trace.proofs.run_records.Statement.{statement}
+use Rattle.trace.proofs.run_records.Tie as tie
+
+abbrev Inv-loop : tie.InvT-loop
+Inv-loop trace costs₀ tags₀ state₀ window₀ at₀ count₀ total₀ costs tags state window at count total =
+    Going trace costs₀ (stateAt (lent tags₀ state₀ window₀)) costs at count total (stateAt (lent tags state window))
+
+abbrev μ-loop : tie.MeasureT-loop
+μ-loop trace costs₀ tags₀ state₀ window₀ at₀ count₀ total₀ costs tags state window at count total = length trace - at
+
+abbrev loopAt : tie.After-run-record Inv-loop μ-loop → tie.At-loop Inv-loop μ-loop
+loopAt k = k .before .before .before .before .before
+
+abbrev start : tie.After-run-record Inv-loop μ-loop → tie.Start Inv-loop μ-loop
+start k = loopAt k .before .before .before .before .before
+
+abbrev from : tie.After-run-record Inv-loop μ-loop → Lent
+from k = lent (loopAt k .loop .tags) (loopAt k .loop .state) (loopAt k .loop .window)
+
+here : (k : tie.After-run-record Inv-loop μ-loop) → loopAt k .loop .at < length (start k .args .trace .now)
+here k = omega arith
+
+-- a cost is a number of 32 bits
+small : (k : tie.After-run-record Inv-loop μ-loop) → k .run-record .result .cost < 2 ^ 32
+small k = search needs
+
+see-window-requires : tie.Need-see-window-requires Inv-loop μ-loop
+see-window-requires c κs = search needs
+
+loop-holds : tie.Need-loop-holds Inv-loop μ-loop
+loop-holds c =
+    let s = c .before .before .before .before in
+    going-start _ _ _ (seen-held (s .args .tags .now) (s .args .state .now) (windowAt (s .args .window .now)) (c .see-window .ensures)) (s .pre .1)
+
+run-record-requires : tie.Need-run-record-requires Inv-loop μ-loop
+run-record-requires c κs = search needs
+
+cast-total : tie.Need-cast-total Inv-loop μ-loop
+cast-total c = search needs
+
+add-total : tie.Need-add-total Inv-loop μ-loop
+add-total c =
+    let k = c .before in
+    record { fits = going-total (loopAt k .loop .inv) (start k .pre .0) (small k) }
+
+mul-put-u32 : tie.Need-mul-put-u32 Inv-loop μ-loop
+mul-put-u32 c =
+    let k = c .before .before .before .before in
+    let room = turn-gone (from k) (loopAt k .loop .inv) (here k) (k .run-record .ensures) (small k) .room (c .before .if1 .taken) in
+    omega (arith, loopAt k .loop .inv .same, start k .good)
+
+put-u32-requires : tie.Need-put-u32-requires Inv-loop μ-loop
+put-u32-requires c κs =
+    let k = c .before .before .before .before in
+    turn-gone (from k) (loopAt k .loop .inv) (here k) (k .run-record .ensures) (small k) .room (c .before .if1 .taken)
+
+add-count : tie.Need-add-count Inv-loop μ-loop
+add-count c =
+    let g = loopAt (c .before .before .before .before .before .before .before) .loop .inv in
+    omega (arith, g .few, g .inside)
+
+loop-less : tie.Need-loop-less Inv-loop μ-loop
+loop-less c =
+    let k = c .before .before .before .before .before .before .before in
+    turn-gone (from k) (loopAt k .loop .inv) (here k) (k .run-record .ensures) (small k) .nearer
+
+loop-again : tie.Need-loop-again Inv-loop μ-loop
+loop-again c =
+    let i = c .before .before .before .before in
+    let k = i .before .before .before in
+    rw (c .before .before .put-u32 .ensures) (turn-gone (from k) (loopAt k .loop .inv) (here k) (k .run-record .ensures) (small k) .paid (i .if1 .taken))
+
+loop-less-2 : tie.Need-loop-less-2 Inv-loop μ-loop
+loop-less-2 c =
+    let k = c .before .before .before in
+    turn-gone (from k) (loopAt k .loop .inv) (here k) (k .run-record .ensures) (small k) .nearer
+
+loop-again-2 : tie.Need-loop-again-2 Inv-loop μ-loop
+loop-again-2 c =
+    let k = c .before .before .before in
+    turn-gone (from k) (loopAt k .loop .inv) (here k) (k .run-record .ensures) (small k) .quiet (c .if1 .left)
+
+same-length : tie.Need-same-length Inv-loop μ-loop
+same-length c = c .before .loop .inv .same
+
+returns : tie.Need-returns Inv-loop μ-loop
+returns c =
+    let l = c .before in
+    let w = l .before in
+    let a = w .before .before .before .before .args in
+    going-end (l .loop .inv) (read-end _ _ (omega arith))
+    ∙ outcome-seen (readTrace (a .trace .now)) (a .costs .now) (stateAt (lent (a .tags .now) (a .state .now) (a .window .now)))
+    (seen-start (a .tags .now) (a .state .now) (windowAt (a .window .now)) (w .see-window .ensures))
+
+pub run-records-spec : {M : Type 1} → statement M
+run-records-spec =
+    tie.close
+    (tie.spec
+    Inv-loop
+    μ-loop
+    see-window-requires
+    loop-holds
+    run-record-requires
+    cast-total
+    add-total
+    mul-put-u32
+    put-u32-requires
+    add-count
+    loop-less
+    loop-again
+    loop-less-2
+    loop-again-2
+    same-length
+    returns)
