@@ -1,8 +1,10 @@
 -- `soep_dispatch_test`: each test is a rule of the definition, in its order; the first that fails answers.
 -- Assumes nothing.
-use mathlib.Core.Path.{sym, _∙_}
+use mathlib.Core.Path.{_≡_, sym, _∙_}
+use mathlib.Core.Bool.{false}
 use borrow.Author.Tests.{not-true, not-false}
 use borrow.Author.Needs.{needs}
+use Rattle.dispatch.specs.Dispatch.{isSimple}
 use Rattle.dispatch.proofs.Rules.{passes-and}
 use Rattle.dispatch.proofs.soep_dispatch_test.Statement.{statement}
 use Rattle.dispatch.proofs.soep_dispatch_test.Tie as tie
@@ -43,12 +45,13 @@ returns-4 c =
     let d = b .before .before in
     let e = d .before .before in
     let a = e .before .before .args in
+    let s : isSimple (a .i .word .0) ≡ false = sym (c .before .simple .ensures) ∙ not-true _ (c .if4 .taken) in
     rw (
       passes-and (a .i) (a .k) (a .w),
       not-false (a .k .ess) (e .if1 .left),
       not-false (a .w .warm) (d .if2 .left),
       not-false (a .k .cached) (b .if3 .left),
-      sym (c .before .simple .ensures) ∙ not-true _ (c .if4 .taken),
+      s,
     )
 
 takes-nothing-requires : tie.Need-takes-nothing-requires

@@ -1,13 +1,19 @@
 -- `takes_nothing`: each test is a rule of the definition, in its order.
 -- Assumes nothing.
-use mathlib.Core.Path.{sym, _∙_}
+use mathlib.Core.Path.{_≡_, sym, _∙_}
+use mathlib.Core.Bool.{false}
+use lib.Bits.{bitAnd, bitOr}
+use lib.Dec.{eqb}
 use borrow.Author.Tests.{ne-eqb}
 use borrow.Author.Needs.{needs}
 use Rattle.dispatch.proofs.takes_nothing.Statement.{statement}
 use Rattle.dispatch.proofs.takes_nothing.Tie as tie
 
 returns : tie.Need-returns
-returns c = rw (ne-eqb _ _ (c .if1 .taken))
+returns c =
+    let a = c .before .before .before .args in
+    let m : eqb (bitAnd (bitOr (a .i .uses) (a .i .defs)) (a .w .defs)) 0 ≡ false = ne-eqb _ _ (c .if1 .taken) in
+    rw m
 
 late-ccr-requires : tie.Need-late-ccr-requires
 late-ccr-requires c κs = search needs

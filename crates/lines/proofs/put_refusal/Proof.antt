@@ -1,6 +1,8 @@
 -- `put_refusal`: the line of the refusal's number and place.
 -- Assumes nothing.
+use mathlib.Core.Path.{_≡_}
 use borrow.Author.Needs.{needs}
+use Rattle.refusals.specs.Refusals.{placeOf}
 use Rattle.lines.proofs.put_refusal.Statement.{statement}
 use Rattle.lines.proofs.put_refusal.Tie as tie
 
@@ -27,7 +29,9 @@ same-length c = search needs
 
 returns : tie.Need-returns
 returns c =
-    rw (← c .before .before .before .before .before .before .before .number .ensures, ← c .before .before .before .before .before .before .place .ensures) (c .before .before .put-numbers .ensures)
+    let d = c .before .before .before .before .before .before in
+    let p : d .place .result ≡ placeOf (d .before .before .before .args .refusal) = d .place .ensures in
+    rw (← d .before .number .ensures, ← p) (c .before .before .put-numbers .ensures)
 
 pub put-refusal-spec : {M : Type 1} → statement M
 put-refusal-spec =
