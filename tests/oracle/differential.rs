@@ -1,4 +1,4 @@
-//! The port against the Rust module, case by case, through the programs `cases` and `batches`.
+//! The port against the Rust module, case by case, through the program `cases`.
 //!
 //! A case is 8 bytes (what, dirty, room 2, image length 2, length 2), a state image or nothing, and bytes; the answer is a line:
 //! WHAT VERDICT NUMBER PLACE COUNT TOTAL LENT STATE. The lent bytes hold a pattern beforehand, so that a byte written or not shows.
@@ -80,10 +80,6 @@ impl Case {
 
     fn batch(&self) -> bool {
         self.what == BATCH || self.what == FOUR
-    }
-
-    fn program(&self) -> &'static str {
-        if self.what < BATCH { "cases" } else { "batches" }
     }
 
     // What the port must answer. A dirty start is a shut window with its other fields set: to the Rust it is no head.
@@ -436,14 +432,12 @@ fn limits() -> Vec<Case> {
     all
 }
 
-/// The cases that the gate replays through a program.
-pub fn sample(program: &str) -> Vec<Case> {
-    let mut rng = Random::new(68060);
-    let (mut all, more) = match program {
-        "cases" => (limits(), cases(&mut rng, 1)),
-        _ => (batch_limits(), batches(&mut rng, 1)),
-    };
-    all.extend(more);
+/// The cases that the gate replays: traces and images, and then batches and breaks.
+pub fn sample() -> Vec<Case> {
+    let mut all = limits();
+    all.extend(cases(&mut Random::new(68060), 1));
+    all.extend(batch_limits());
+    all.extend(batches(&mut Random::new(68060), 1));
     all
 }
 
@@ -462,13 +456,12 @@ pub fn expected(cases: &[Case]) -> String {
 
 // ---- the run
 
-// The port's answers to cases that one program takes; the runner gets its name as the last word.
+// The port's answers to cases; the runner gets the program's name as the last word.
 fn answers(runner: &[String], cases: &[Case]) -> Result<Vec<String>, String> {
     let input = input(cases);
-    let program = cases[0].program();
     let mut child = Command::new(&runner[0])
         .args(&runner[1..])
-        .arg(program)
+        .arg("cases")
         .stdin(Stdio::piped())
         .stdout(Stdio::piped())
         .spawn()
@@ -480,7 +473,7 @@ fn answers(runner: &[String], cases: &[Case]) -> Result<Vec<String>, String> {
     feeder.join().unwrap().map_err(|e| e.to_string())?;
     let status = child.wait().map_err(|e| e.to_string())?;
     if !status.success() {
-        return Err(format!("the program '{program}' ended with {status}"));
+        return Err(format!("the program 'cases' ended with {status}"));
     }
     Ok(text.lines().map(String::from).collect())
 }

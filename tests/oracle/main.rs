@@ -2,12 +2,11 @@
 //!
 //! oracle all_opcodes   OPCODE WORD USE DEF of all 65,536 opcodes, a line each, in upper-case hex
 //! oracle worked        the worked instructions of document 01 that are run: the fallback, and RTS that flowed
-//! oracle cases_input, oracle cases    the cases that the gate replays, and what the port must answer: traces and images
-//! oracle batches_input, oracle batches    the same: batches and breaks
+//! oracle cases_input, oracle cases    the cases that the gate replays, and what the port must answer
 //! oracle lister_limit                 what the lister must print of 65,536 and of 65,537 bytes of breaks
 //! oracle cost_lister, oracle replay   what these programs must print of standard input
 //! oracle examples DIR                 writes the example traces and what the lister must print of them
-//! oracle differential SEED SCALE RUNNER..   the port's programs `cases` and `batches`, run by RUNNER, against this module
+//! oracle differential SEED SCALE RUNNER..   the port's program `cases`, run by RUNNER, against this module
 #![allow(dead_code, unexpected_cfgs)]
 
 mod differential;
@@ -83,15 +82,14 @@ fn main() {
     let done = match asked.as_deref() {
         Some("all_opcodes") => all_opcodes(&mut out),
         Some("worked") => worked(&mut out),
-        Some("cases_input") => out.write_all(&differential::input(&differential::sample("cases"))),
-        Some("batches_input") => out.write_all(&differential::input(&differential::sample("batches"))),
-        Some(program @ ("cases" | "batches")) => out.write_all(differential::expected(&differential::sample(program)).as_bytes()),
+        Some("cases_input") => out.write_all(&differential::input(&differential::sample())),
+        Some("cases") => out.write_all(differential::expected(&differential::sample()).as_bytes()),
         Some("lister_limit") => out.write_all(listing::lister_limit().as_bytes()),
         Some("cost_lister") => input().and_then(|s| out.write_all(listing::cost_lister(&s).as_bytes())),
         Some("replay") => input().and_then(|s| out.write_all(listing::replay(&s).as_bytes())),
         Some("examples") if words.len() == 2 => listing::examples(std::path::Path::new(&words[1])),
         _ => {
-            eprintln!("usage: oracle all_opcodes | worked | cases_input | cases | batches_input | batches | lister_limit | cost_lister | replay | examples DIR | differential SEED SCALE RUNNER..");
+            eprintln!("usage: oracle all_opcodes | worked | cases_input | cases | lister_limit | cost_lister | replay | examples DIR | differential SEED SCALE RUNNER..");
             std::process::exit(2);
         }
     };

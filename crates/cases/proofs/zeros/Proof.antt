@@ -1,15 +1,15 @@
--- `written`: at most 16 places, each below the length.
+-- `zeros`: a place each turn, none past the bytes.
 -- Assumes nothing.
 use Prim.Native.Nat.{_≤_, _-_}
 use borrow.Author.Needs.{needs}
-use Rattle.case_parts.proofs.written.Statement.{statement}
-use Rattle.case_parts.proofs.written.Tie as tie
+use Rattle.cases.proofs.zeros.Statement.{statement}
+use Rattle.cases.proofs.zeros.Tie as tie
 
 abbrev Inv-loop : tie.InvT-loop
-Inv-loop bytes n₀ n = n ≤ 16
+Inv-loop bytes from to i₀ i = from ≤ i
 
 abbrev μ-loop : tie.MeasureT-loop
-μ-loop bytes n₀ n = 16 - n
+μ-loop bytes from to i₀ i = to - i
 
 loop-holds : tie.Need-loop-holds Inv-loop μ-loop
 loop-holds c = search needs
@@ -23,8 +23,8 @@ shared-slice-read-if2 c = search needs
 returns-2 : tie.Need-returns-2 Inv-loop μ-loop
 returns-2 c = search needs
 
-add-n : tie.Need-add-n Inv-loop μ-loop
-add-n c = search needs
+add-i : tie.Need-add-i Inv-loop μ-loop
+add-i c = search needs
 
 loop-less : tie.Need-loop-less Inv-loop μ-loop
 loop-less c = search needs
@@ -35,8 +35,8 @@ loop-again c = search needs
 returns-3 : tie.Need-returns-3 Inv-loop μ-loop
 returns-3 c = search needs
 
-pub written-spec : {M : Type 1} → statement M
-written-spec =
+pub zeros-spec : {M : Type 1} → statement M
+zeros-spec =
     tie.close
     (tie.spec
     Inv-loop
@@ -45,7 +45,7 @@ written-spec =
     returns
     shared-slice-read-if2
     returns-2
-    add-n
+    add-i
     loop-less
     loop-again
     returns-3)

@@ -1,32 +1,26 @@
--- `put_words`: word after word, none past the bytes.
+-- `put_words`: word after word, none past the words nor past the bytes.
 -- Assumes nothing.
 use Prim.Native.Nat.{_*_, _≤_, _-_}
 use mathlib.Core.Path.{_≡_}
 use lib.ListN.{length}
 use borrow.Author.Needs.{needs}
-use Rattle.batches.proofs.put_words.Statement.{statement}
-use Rattle.batches.proofs.put_words.Tie as tie
+use Rattle.cases.proofs.put_words.Statement.{statement}
+use Rattle.cases.proofs.put_words.Tie as tie
 
 abbrev Inv-loop : tie.InvT-loop
-Inv-loop words bytes₀ n i₀ bytes i = (i ≤ n) × (n * 4 ≤ length bytes) × (length bytes ≡ length bytes₀)
+Inv-loop bytes₀ words count i₀ bytes i = (i ≤ count) × (4 * count ≤ length bytes) × (count ≤ 16383) × (length bytes ≡ length bytes₀)
 
 abbrev μ-loop : tie.MeasureT-loop
-μ-loop words bytes₀ n i₀ bytes i = n - i
+μ-loop bytes₀ words count i₀ bytes i = count - i
 
 loop-holds : tie.Need-loop-holds Inv-loop μ-loop
 loop-holds c = search needs
 
-same-length : tie.Need-same-length Inv-loop μ-loop
-same-length c = search needs
-
-returns : tie.Need-returns Inv-loop μ-loop
-returns c = search needs
-
 mul-word : tie.Need-mul-word Inv-loop μ-loop
 mul-word c = search needs
 
-shared-slice-read-word : tie.Need-shared-slice-read-word Inv-loop μ-loop
-shared-slice-read-word c = search needs
+array-read-word : tie.Need-array-read-word Inv-loop μ-loop
+array-read-word c = search needs
 
 mul-put-u32 : tie.Need-mul-put-u32 Inv-loop μ-loop
 mul-put-u32 c = search needs
@@ -43,11 +37,11 @@ loop-less c = search needs
 loop-again : tie.Need-loop-again Inv-loop μ-loop
 loop-again c = search needs
 
-same-length-2 : tie.Need-same-length-2 Inv-loop μ-loop
-same-length-2 c = search needs
+same-length : tie.Need-same-length Inv-loop μ-loop
+same-length c = search needs
 
-returns-2 : tie.Need-returns-2 Inv-loop μ-loop
-returns-2 c = search needs
+returns : tie.Need-returns Inv-loop μ-loop
+returns c = search needs
 
 pub put-words-spec : {M : Type 1} → statement M
 put-words-spec =
@@ -56,14 +50,12 @@ put-words-spec =
     Inv-loop
     μ-loop
     loop-holds
-    same-length
-    returns
     mul-word
-    shared-slice-read-word
+    array-read-word
     mul-put-u32
     put-u32-requires
     add-i
     loop-less
     loop-again
-    same-length-2
-    returns-2)
+    same-length
+    returns)

@@ -4,8 +4,8 @@ use mathlib.Core.Path.{sym}
 use mathlib.Core.Bool.{true≢false}
 use lib.Seq.{length-take-le}
 use borrow.Author.Needs.{needs}
-use Rattle.case_parts.proofs.read_part.Statement.{statement}
-use Rattle.case_parts.proofs.read_part.Tie as tie
+use Rattle.cases.proofs.read_part.Statement.{statement}
+use Rattle.cases.proofs.read_part.Tie as tie
 
 returns : tie.Need-returns
 returns c h = absurd (true≢false (sym h))
