@@ -4,8 +4,8 @@ use libc::STDOUT_FILENO;
 
 // One line, 20 bytes with its end.
 fn line(op: u16) -> [u8; 20] {
-    let info = classifier::info_060(op);
-    let masks = masks::reg_masks_060(op);
+    let info = opcodes::info_060(op);
+    let masks = opcodes::reg_masks_060(op);
     let o = hex::hex4(op);
     let w = hex::hex4(info.0);
     let u = hex::hex4(masks.uses);

@@ -19,12 +19,14 @@ use mir.Val.{Val}
 use Rattle.step.specs.declared.Retirement.{Retirement}
 use Rattle.step.specs.declared.Oep060Timing.{Oep060Timing}
 use Rattle.step.specs.Events.{total as sum}
-use Rattle.step.specs.Step.{timingAt, seenOf, steppedOf}
-use Rattle.turns.specs.declared.Carried.{Carried}
-use Rattle.turns.specs.Turns.{Reached, reached, turnedOf, beginOf}
+use Rattle.step.specs.Step.{timingAt, seenOf}
+use Rattle.board.specs.Crate.{steppedOf}
+use Rattle.ends.specs.declared.Carried.{Carried}
+use Rattle.ends.specs.Ends.{beginOf}
+use Rattle.turns.specs.Turns.{Reached, reached, turnedOf}
 use Rattle.batch.proofs.Run.{endOf, paidOf, end-none, paid-none, end-first, paid-first}
-use Rattle.turns.proofs.Carried as C
-use Rattle.turns.proofs.Carried.Laws as C′
+use Rattle.ends.proofs.Carried as C
+use Rattle.ends.proofs.Carried.Laws as C′
 
 -- a record that stands for what lies past the end of a list
 abbrev pub none : Retirement

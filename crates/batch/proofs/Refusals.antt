@@ -11,7 +11,7 @@ use Rattle.step.specs.declared.Oep060Timing.{Oep060Timing}
 use Rattle.refusals.specs.declared.Refusal.the-variants.{Oversized, Room}
 use Rattle.refusals.specs.declared.Verdict.{Verdict}
 use Rattle.refusals.specs.declared.Verdict.the-variants.{Accepted, Refused}
-use Rattle.turns.specs.Judge.{judgeOf}
+use Rattle.ends.specs.Judge.{judgeOf}
 use Rattle.batch.specs.Batch.{outcomeBy, batchOf}
 use Rattle.batch.specs.Given.{isAccepted, gives}
 

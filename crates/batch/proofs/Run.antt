@@ -11,14 +11,14 @@ use lib.Dec.{T, ltb, nltb→le}
 use Rattle.step.specs.declared.Retirement.{Retirement}
 use Rattle.step.specs.declared.Oep060Timing.{Oep060Timing}
 use Rattle.step.specs.Events.{retirements, finally, costs, total}
-use Rattle.step.specs.Crate.{crateBoard}
-use Rattle.step.specs.Step.{stateOf, timingOf, seenOf, steppedBy, steppedOf}
+use Rattle.step.specs.Step.{stateOf, timingOf, seenOf, steppedBy}
+use Rattle.board.specs.Crate.{crateBoard, steppedOf}
 use Rattle.refusals.specs.declared.Verdict.{Verdict}
 use Rattle.refusals.specs.declared.Verdict.the-variants.{Accepted, Refused}
 use Rattle.refusals.specs.declared.Refusal.the-variants.{Oversized, Room}
-use Rattle.turns.specs.Judge.{judgeOf}
+use Rattle.ends.specs.Judge.{judgeOf}
 use Rattle.batch.specs.Batch.{outcome, eventsOf, outcomeBy}
-use Rattle.turns.specs.Turns.{runsBy}
+use Rattle.ends.specs.Ends.{runsBy}
 
 -- the state after the records, and the cost of each
 abbrev pub endOf : Oep060Timing → List Retirement → Oep060Timing

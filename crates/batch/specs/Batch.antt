@@ -16,13 +16,13 @@ use Rattle.step.specs.declared.Event.{Event}
 use Rattle.step.specs.declared.Event.the-variants.{Retired}
 use Rattle.step.specs.declared.Oep060Timing.{Oep060Timing}
 use Rattle.step.specs.Events.{costs, finally, total}
-use Rattle.step.specs.Crate.{crateBoard}
+use Rattle.board.specs.Crate.{crateBoard}
 use Rattle.step.specs.Step.{stateOf, timingOf, seenOf}
 use Rattle.refusals.specs.declared.Verdict.{Verdict}
 use Rattle.refusals.specs.declared.Verdict.the-variants.{Accepted, Refused}
 use Rattle.outcome.specs.declared.Ran.{Ran}
 use Rattle.outcome.specs.Runs.{refusedOf}
-use Rattle.turns.specs.Judge.{judgeOf}
+use Rattle.ends.specs.Judge.{judgeOf}
 
 pub record Outcome : Type 0 where
   pub ran : Ran

@@ -1,12 +1,12 @@
 // The batch of document 01: a lent run of retirement records, its costs into lent 32-bit places.
 ghost use mathlib.Core.Path.{_≡_};
 ghost use Rattle.batch.specs.Batch.{outcome, batchOf};
+use ends::begin;
+use ends::finish;
+use ends::judge;
 use outcome::Ran;
 use step::Oep060Timing;
 use step::Retirement;
-use turns::begin;
-use turns::finish;
-use turns::judge;
 use turns::turn;
 
 // The batch: each record is copied out of the lent run and handed to the step. A walk by hand.

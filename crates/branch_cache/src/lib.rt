@@ -1,9 +1,7 @@
 // Part 4 of document 01: the branch cache.
 ghost use mathlib.Core.Path.{_≡_};
-ghost use Rattle.branch_cache.specs.Cache.{slotOf, freshOf, clearAllOf, clearUserOf, cachePredictOf, cacheUpdateOf};
+ghost use Rattle.branch_cache.specs.Cache.{slotOf, freshOf, clearAllOf, clearUserOf};
 use slot::BC_USER;
-use slot::Predicted;
-use slot::Slot;
 
 // Fixed arrays for the Rust's `Vec`s: no cache has a wrong length.
 pub struct BranchCache060 {
@@ -45,31 +43,6 @@ impl BranchCache060 {
             }
             i += 1;
         }
-        self
-    }
-
-    pub fn predict(self, pc: u32) -> Predicted
-        ensures { λ r. ⌜ r ≡ cachePredictOf self pc ⌝ }
-    {
-        let i = BranchCache060::slot(pc);
-        let slot = Slot {
-            tag: self.tags[i],
-            byte: self.state[i],
-        };
-        slot.predict(pc)
-    }
-
-    pub fn update(mut self, pc: u32, taken: bool, user: bool) -> Self
-        ensures { λ r. ⌜ r ≡ cacheUpdateOf self pc taken user ⌝ }
-    {
-        let i = BranchCache060::slot(pc);
-        let slot = Slot {
-            tag: self.tags[i],
-            byte: self.state[i],
-        };
-        let next = slot.update(pc, taken, user);
-        self.tags[i] = next.tag;
-        self.state[i] = next.byte;
         self
     }
 }

@@ -6,9 +6,9 @@
 use Prim.Native.Nat.{ℕ}
 use Rattle.masks.specs.Masks.{masksOf}
 use Rattle.step.specs.declared.Event.{Event}
-use Rattle.step.specs.Step.{afterOf}
+use Rattle.board.specs.Crate.{afterOf}
 use Rattle.host.specs.declared.HostMasks.{HostMasks}
-use Rattle.in_place.specs.Lent.{Lent, stateAt, lentOf}
+use Rattle.by_numbers.specs.Lent.{Lent, stateAt, lentOf}
 
 abbrev pub eventAtOf : Lent → Event → Lent
 eventAtOf l e = lentOf (afterOf (stateAt l) e)

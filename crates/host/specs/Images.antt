@@ -15,7 +15,7 @@ use mathlib.Core.List.{List}
 use Rattle.image.specs.declared.ImageRead.{ImageRead}
 use Rattle.image.specs.Entries.{Outcome, imageWriteOf, imageReadOf}
 use Rattle.host_numbers.specs.declared.HostRan.{HostRan}
-use Rattle.in_place.specs.Lent.{Lent, stateAt, lentOf}
+use Rattle.by_numbers.specs.Lent.{Lent, stateAt, lentOf}
 use Rattle.host_numbers.specs.Ran.{hostRanOf}
 
 pub record HostImage : Type 0 where

@@ -5,7 +5,7 @@
 use Prim.Native.Nat.{ℕ}
 use mathlib.Core.List.{List}
 use Rattle.trace.specs.Run as traces
-use Rattle.in_place.specs.Lent.{Lent, stateAt}
+use Rattle.by_numbers.specs.Lent.{Lent, stateAt}
 use Rattle.host_numbers.specs.Ran.{HostOutcome, hostOutcomeOf}
 
 abbrev pub traceOutcomeOf : traces.Outcome → HostOutcome

@@ -5,8 +5,9 @@ ghost use Prim.Native.Nat.{ℕ};
 ghost use Rattle.classifier.specs.Classify.{classifyOf};
 ghost use Rattle.step.specs.Step.{freshOf};
 ghost use Rattle.step.specs.declared.Event.the-variants.{Broken, ClearedAll, ClearedUser};
-ghost use Rattle.in_place.specs.Lent.{lent, lentOf};
-ghost use Rattle.in_place.specs.Retire.{retirementOf, paid, retireAtOf};
+ghost use Rattle.by_numbers.specs.Lent.{lent, lentOf};
+ghost use Rattle.payload.specs.Passed.{retirementOf};
+ghost use Rattle.in_place.specs.Retire.{paid, retireAtOf};
 ghost use Rattle.host_numbers.specs.Ran.{hostOutcome};
 ghost use Rattle.words.specs.Words.{runBatchAtOf};
 ghost use Rattle.host.specs.Events.{eventAtOf, hostMasksOf};
@@ -93,14 +94,14 @@ pub extern "C" fn timing_060_clear_user_at(state: &mut [u8; 256], window: &mut [
 pub extern "C" fn timing_060_class_word(op: u16) -> u16
     ensures { λ r. ⌜ r ≡ classifyOf op ⌝ }
 {
-    classifier::info_060(op).0
+    opcodes::info_060(op).0
 }
 
 #[no_mangle]
 pub extern "C" fn timing_060_masks_of(op: u16) -> HostMasks
     ensures { λ r. ⌜ r ≡ hostMasksOf op ⌝ }
 {
-    let masks = masks::reg_masks_060(op);
+    let masks = opcodes::reg_masks_060(op);
     HostMasks {
         uses: masks.uses,
         defs: masks.defs,
@@ -119,7 +120,7 @@ pub extern "C" fn timing_060_run_trace_at(
     ensures { λ r. ⌜ hostOutcome r (now (costs .exit)) (lent (now (tags .exit)) (now (state .exit)) (now (window .exit)))
         ≡ runTraceAtOf (now (trace .entry)) (now (costs .entry)) (lent (now (tags .entry)) (now (state .entry)) (now (window .entry))) ⌝ }
 {
-    let given = in_place::timing_at(*tags, *state, *window);
+    let given = by_numbers::timing_at(*tags, *state, *window);
     let ran = trace::run_trace(trace, costs, given);
     put_timing(tags, state, window, ran.timing);
     let verdict = ran.verdict;
@@ -151,7 +152,7 @@ pub extern "C" fn timing_060_image_write_at(
 ) -> HostRan
     ensures { λ r. ⌜ hostImage r (now (image .exit)) ≡ imageWriteAtOf (lent (now (tags .entry)) (now (state .entry)) (now (window .entry))) (now (image .entry)) ⌝ }
 {
-    let timing = in_place::timing_at(*tags, *state, *window);
+    let timing = by_numbers::timing_at(*tags, *state, *window);
     let written = image::image_write(timing, image);
     let verdict = written.verdict;
     host_ran(verdict, written.written, 0)

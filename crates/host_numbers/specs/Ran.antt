@@ -13,7 +13,7 @@ use Rattle.refusals.specs.declared.Verdict.the-variants.{Accepted, Refused}
 use Rattle.outcome.specs.declared.Ran.{Ran}
 use Rattle.refusals.specs.Refusals.{numberOf, placeOf}
 use Rattle.host_numbers.specs.declared.HostRan.{HostRan}
-use Rattle.in_place.specs.Lent.{Lent, lentOf}
+use Rattle.by_numbers.specs.Lent.{Lent, lentOf}
 
 abbrev pub refusalOf : Verdict → ℕ
 refusalOf Accepted = 0

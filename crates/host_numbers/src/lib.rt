@@ -4,7 +4,7 @@ ghost use Rattle.step.specs.Step.{freshOf};
 ghost use Rattle.refusals.specs.declared.Verdict.the-variants.{Refused};
 ghost use Rattle.window.specs.Windows.{seen};
 ghost use Rattle.numbers.specs.Windows.{windowAt};
-ghost use Rattle.in_place.specs.Lent.{lent, lentOf};
+ghost use Rattle.by_numbers.specs.Lent.{lent, lentOf};
 ghost use Rattle.numbers.specs.Windows.{numbersOf};
 ghost use Rattle.host_numbers.specs.Ran.{hostRanOf};
 use refusals::Refusal;

@@ -41,8 +41,8 @@ fn put_header(out: &mut [u8])
     requires { ⌜ 1288 ≤ length (now out) ⌝ }
     ensures { λ _. ⌜ now (out .exit) ≡ putAt (now (out .entry)) 0 headerBytes ⌝ }
 {
-    little_endian::put_u16(out, 0, PAYLOAD);
-    little_endian::put_u16(out, 2, KIND);
+    storing::put_u16(out, 0, PAYLOAD);
+    storing::put_u16(out, 2, KIND);
 }
 
 fn put_tags(tags: [u32; 256], out: &mut [u8])
@@ -51,7 +51,7 @@ fn put_tags(tags: [u32; 256], out: &mut [u8])
 {
     let mut i: usize = 0;
     while i < 256 {
-        little_endian::put_u32(out, TAGS + 4 * i, tags[i]);
+        storing::put_u32(out, TAGS + 4 * i, tags[i]);
         i += 1;
     }
 }
@@ -72,7 +72,7 @@ fn put_window(w: Window, out: &mut [u8])
     ensures { λ _. ⌜ now (out .exit) ≡ putAt (now (out .entry)) 1284 (windowBytes w) ⌝ }
 {
     out[OPENED] = number(w.opened);
-    little_endian::put_u16(out, DEFS, w.defs);
+    storing::put_u16(out, DEFS, w.defs);
     out[BITS] = bits_of(w);
 }
 

@@ -7,9 +7,10 @@ use Rattle.class_word.specs.Word.{clocks}
 use Rattle.window.specs.declared.Window.{Window}
 use Rattle.step.specs.declared.Retirement.{Retirement}
 use Rattle.step.specs.declared.Stepped.{Stepped}
-use Rattle.step.specs.Step.{timingAt, steppedOf}
+use Rattle.step.specs.Step.{timingAt}
+use Rattle.board.specs.Crate.{steppedOf}
 use Rattle.numbers.specs.Windows.{windowAt, numbersOf}
-use Rattle.in_place.specs.Lent.{Lent, lent, stateAt}
+use Rattle.by_numbers.specs.Lent.{Lent, lent, stateAt}
 use Rattle.numbers.proofs.Held.{window-held}
 use Rattle.in_place.specs.Retire.{Paid, paid, retireAtOf}
 

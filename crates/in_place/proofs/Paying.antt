@@ -22,7 +22,7 @@ use Rattle.step.specs.Events.{meets, answerOf, cacheAfter}
 use Rattle.step.specs.Crate.{cacheAt, crateCache}
 use Rattle.step.specs.Step.{stateOf, Asked, asked, askedOf, steppedBy}
 use Rattle.numbers.specs.Windows.{windowAt, numbersOf}
-use Rattle.in_place.specs.Lent.{Lent, lent, stateAt}
+use Rattle.by_numbers.specs.Lent.{Lent, lent, stateAt}
 use Rattle.in_place.specs.Retire.{Paid, paid, paidOf}
 
 abbrev met : Lent → Instruction → Controls → Retiring

@@ -1,6 +1,4 @@
 -- One retirement in place: what a run, a batch and a host do for each instruction.
 --
---   Lent     ==  the numbers that are lent for a state, and how they are read
---   Retire   ==  one retirement on them
-pub mod Lent
+--   Retire   ==  one retirement on the numbers that are lent for a state
 pub mod Retire

@@ -1,20 +1,14 @@
 -- One retirement on lent numbers. Document 01, "One retirement" and "Records and images". The Rust: cycles_060.
 --
---   retirementOf op flags ppc pc raw  ==  the retirement of these numbers
---   Paid                              ==  what a retirement costs, together with every lent number afterwards
---   paid cost l                       ==  these two
---   paidOf s                          ==  the same of a next state and its cost, s
---   retireAtOf l r                    ==  the retirement r on the lent numbers l
+--   Paid            ==  what a retirement costs, together with every lent number afterwards
+--   paid cost l     ==  these two
+--   paidOf s        ==  the same of a next state and its cost, s
+--   retireAtOf l r  ==  the retirement r on the lent numbers l
 use Prim.Native.Nat.{ℕ}
-use lib.IntN.{ℤ}
-use Rattle.flags.specs.Flags.{controlsOf}
 use Rattle.step.specs.declared.Retirement.{Retirement}
 use Rattle.step.specs.declared.Stepped.{Stepped}
-use Rattle.step.specs.Step.{steppedOf}
-use Rattle.in_place.specs.Lent.{Lent, stateAt, lentOf}
-
-abbrev pub retirementOf : ℕ → ℕ → ℕ → ℕ → ℤ → Retirement
-retirementOf op flags ppc pc raw = record { op = op; controls = controlsOf flags ppc pc raw }
+use Rattle.board.specs.Crate.{steppedOf}
+use Rattle.by_numbers.specs.Lent.{Lent, stateAt, lentOf}
 
 pub record Paid : Type 0 where
   pub cost : ℕ

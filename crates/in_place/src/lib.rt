@@ -1,28 +1,10 @@
 // One retirement in place, on lent numbers: the one step that runs, batches and hosts share.
 ghost use mathlib.Core.Path.{_≡_};
-ghost use Rattle.in_place.specs.Lent.{lent, stateAt};
-ghost use Rattle.in_place.specs.Retire.{retirementOf, paid, retireAtOf};
-use branch_cache::BranchCache060;
+ghost use Rattle.by_numbers.specs.Lent.{lent};
+ghost use Rattle.payload.specs.Passed.{retirementOf};
+ghost use Rattle.in_place.specs.Retire.{paid, retireAtOf};
 use class_word::F_BRANCH;
-use step::Oep060Timing;
 use step::Retirement;
-
-// The state that lent numbers stand for.
-pub fn timing_at(tags: [u32; 256], state: [u8; 256], window: [u16; 5]) -> Oep060Timing
-    ensures { λ r. ⌜ r ≡ stateAt (lent tags state window) ⌝ }
-{
-    let cache = BranchCache060 { tags, state };
-    let window = numbers::window_at(window);
-    Oep060Timing { cache, window }
-}
-
-// The retirement of these numbers.
-pub fn retirement(op: u16, flags: u16, ppc: u32, pc: u32, raw: i32) -> Retirement
-    ensures { λ r. ⌜ r ≡ retirementOf op flags ppc pc raw ⌝ }
-{
-    let controls = flags::controls_of(flags, ppc, pc, raw);
-    Retirement { op, controls }
-}
 
 // One retirement of these numbers: its clocks.
 pub fn retire_at(

@@ -26,12 +26,13 @@ use Rattle.pairing.proofs.Largest.{plain-most}
 use Rattle.step.specs.declared.Event.{Event}
 use Rattle.step.specs.declared.Event.the-variants.{Retired, Broken, ClearedAll, ClearedUser}
 use Rattle.step.specs.Events.{State, retiringOf, after, retirements, costs, total}
-use Rattle.step.specs.Crate.{crateCache, crateBoard}
+use Rattle.step.specs.Crate.{crateCache}
+use Rattle.board.specs.Crate.{crateBoard}
 use Rattle.records.specs.Trace.{countOf}
 use Rattle.trace.specs.Run.{costBytes}
 use Rattle.record.proofs.Choices.{by-test}
 use Rattle.lines.specs.Lines.{opcodesOf, linesFrom, retirementLine}
-use Rattle.listing.specs.Inner.{linesRead}
+use Rattle.table.specs.Printed.{linesRead}
 use Rattle.lines.proofs.Lengths.{line-most}
 use Rattle.listing.proofs.Reading.{Raws}
 

@@ -27,7 +27,7 @@ use Rattle.records.specs.Judged.{judged}
 use Rattle.records.specs.Judged.{withRoom}
 use Rattle.lines.specs.Lines.{headerLine, refusalLine, totalLine, opcodesOf, linesFrom}
 use Rattle.listing.specs.Listing.{judgedOf, tableOf, textBy, verdictBy, timingBy, outcome, outcomeBy}
-use Rattle.listing.specs.Inner.{linesRead, Ready, printed}
+use Rattle.table.specs.Printed.{linesRead, Ready, printed}
 use Rattle.lines.proofs.Lengths.{total-most}
 use Rattle.listing.proofs.Reading.{Short, Raws, short}
 use Rattle.listing.proofs.Costs.{lines-costs, lines-most, costs-most}

@@ -2,7 +2,6 @@
 -- Assumes nothing.
 use Prim.Native.Nat.{ℕ, zero, suc, _+_, _*_, _^_, _≤_}
 use mathlib.Core.Path.{_≡_, refl, subst}
-use mathlib.Core.Bool.{not}
 use mathlib.Core.List.{List, [], _∷_}
 use native.Mathlib.Omega.{arith}
 use lib.Dec.{eqb, ltb}
@@ -11,7 +10,7 @@ use lib.ListN.{length}
 use mir.Syntax.{w32}
 use mir.Val.{SFits}
 use borrow.Author.Tests.{ltb-true, ltb-false}
-use Rattle.little_endian.specs.Numbers.{signedOf}
+use Rattle.signed.specs.Signed.{signedOf}
 use Rattle.step.specs.declared.Event.{Event}
 use Rattle.step.specs.declared.Event.the-variants.{Retired, Broken, ClearedAll, ClearedUser}
 use Rattle.kinds.specs.declared.Kind.{Kind}
@@ -20,8 +19,12 @@ use Rattle.kinds.specs.declared.KindRead.{KindRead}
 use Rattle.kinds.specs.declared.KindRead.the-variants.{Known, Unknown}
 use Rattle.record.specs.declared.Read.{Read}
 use Rattle.record.specs.declared.Read.the-variants.{Got, Bad, End}
-use Rattle.kinds.specs.Kinds.{payloadLength, kindOf}
-use Rattle.record.specs.Record.{remaining, lengthAt, kindAt, nextPlace, eventAt, highFlag, recordAt, bodyAt, readAt, retirementAt}
+use Rattle.kinds.specs.Kinds.{kindOf}
+use Rattle.refusals.specs.declared.Verdict.{Verdict}
+use Rattle.refusals.specs.declared.Verdict.the-variants.{Accepted, Refused}
+use Rattle.faults.specs.Faults.{nextPlace, faultAt}
+use Rattle.payload.specs.Payload.{retirementAt}
+use Rattle.record.specs.Record.{remaining, kindAt, eventAt, takenBy, recordAt, bodyAt, readAt}
 use Rattle.records.specs.Trace.{Trace, events, refused, ahead, goOn, readIn, readFrom, readTrace, countOf}
 use Rattle.record.proofs.Choices.{by-test}
 use Rattle.records.proofs.Walking.{got-within}
@@ -57,13 +60,14 @@ raw-event trace at Break = tt
 raw-event trace at ClearAll = tt
 raw-event trace at ClearUser = tt
 
+raw-taken : (trace : List ℕ) (at : ℕ) (k : Kind) (verdict : Verdict) → RawRead (takenBy verdict (eventAt trace at k) (nextPlace at k))
+raw-taken trace at k Accepted = raw-event trace at k
+raw-taken trace at k (Refused refusal) = tt
+
 raw-body : (trace : List ℕ) (at : ℕ) (k : KindRead) → RawRead (bodyAt trace at k)
 unfolding recordAt
 raw-body trace at Unknown = tt
-raw-body trace at (Known k) =
-    by-test RawRead (not (eqb (lengthAt trace at) (payloadLength k))) _ _ (λ _. tt)
-    (λ _. by-test RawRead (ltb (length trace) (nextPlace at k)) _ _ (λ _. tt)
-    (λ _. by-test RawRead (highFlag trace at k) _ _ (λ _. tt) (λ _. raw-event trace at k)))
+raw-body trace at (Known k) = raw-taken trace at k (faultAt trace at k)
 
 raw-read : (trace : List ℕ) (at : ℕ) → RawRead (readAt trace at)
 unfolding readAt

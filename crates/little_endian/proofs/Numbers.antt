@@ -3,7 +3,7 @@
 use mathlib.Core.Path.{_≡_, refl, sym, ap, _∙_}
 use mathlib.Core.List.{List, _∷_, _++_, append-assoc}
 use Prim.Native.Nat.{ℕ, zero, suc, _+_, _*_, _/_, _%_, _^_, _<_, _≤_}
-use native.Mathlib.Nat.{pow-suc, add-zero, mul-add-mod-self-left}
+use native.Mathlib.Nat.{pow-suc, add-zero}
 use native.Mathlib.Numerals.{add-one}
 use native.Mathlib.Omega.{arith}
 use lib.ListN.{length, getD, take, drop, length-append, length-drop, take-append-drop, List·getD-append}
@@ -130,12 +130,3 @@ unfolding numberAt
 number-halves s at =
     let e : at + 2 ≡ at + 1 + 1 = omega arith in
     rw e (omega arith)
-
-pub bytes-halves : (n : ℕ) → bytesOf 4 n ≡ bytesOf 2 (n % 65536) ++ bytesOf 2 (n / 65536)
-unfolding bytesOf
-bytes-halves n =
-    let a : n % 65536 % 256 ≡ n % 256 = omega arith in
-    let h : n / 256 ≡ 256 * (n / 65536) + n % 65536 / 256 = omega arith in
-    let b : n / 256 % 256 ≡ n % 65536 / 256 % 256 = rw h (mul-add-mod-self-left 256 (n / 65536) (n % 65536 / 256)) in
-    let c : n / 256 / 256 ≡ n / 65536 = omega arith in
-    rw (a, ← b, c)

@@ -4,13 +4,8 @@
 --   bytesOf k n       ==  the k bytes of the number n                                         "Costs in bytes are little-endian"
 --   putAt s at bs     ==  the list s with the bytes bs from the place `at` on, all others as they were
 --   Below m s         ==  every number of the list s is below m: `Below 256 s` says that s is a list of bytes
---   signedOf x        ==  the signed number with the 32 bits of x                             "raw 4 signed"
---                         x itself below 2^31, and from there on x less 2^32
-use Prim.Native.Nat.{ℕ, zero, suc, _+_, _-_, _*_, _/_, _%_, _^_, _<_}
-use mathlib.Core.Bool.{cond}
+use Prim.Native.Nat.{ℕ, zero, suc, _+_, _*_, _/_, _%_, _<_}
 use mathlib.Core.List.{List, [], _∷_, _++_}
-use lib.IntN.{ℤ, pos, negsuc}
-use lib.Dec.{ltb}
 use lib.ListN.{length, getD, take, drop}
 
 unfoldable pub numberAt : ℕ → List ℕ → ℕ → ℕ
@@ -26,7 +21,3 @@ putAt s at bs = take at s ++ bs ++ drop (at + length bs) s
 
 abbrev pub Below : ℕ → List ℕ → Type 0
 Below m s = (i : ℕ) → getD s i 0 < m
-
--- `negsuc n` is the library's -1 - n, so that `negsuc (2 ^ 32 - 1 - x)` is x less 2^32
-unfoldable pub signedOf : ℕ → ℤ
-signedOf x = cond (ltb x (2 ^ 31)) (pos x) (negsuc (2 ^ 32 - 1 - x))

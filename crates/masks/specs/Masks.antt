@@ -1,38 +1,32 @@
 -- Document 01, part 3, "Masks". The Rust: reg_masks_060. Its order of groups, and of tests within a group.
 --
---   dataOperand mode reg       ==  the data register that an operand itself is, if it is one: the Rust's operand_def of group 4
 --   moveqSets op               ==  group 7: MOVEQ
 --   dyadicRows op              ==  groups 8, 9, B, C and D: OR, SUB, CMP and EOR, AND, ADD, by bits 6 to 8: the Rust's opmode
 --   dyadicSets op              ==  the first of these rows that holds
 --   countUses op               ==  the register that holds a shift's count, if bit 5 says that one does: the Rust's count_use
 --   shiftRows op               ==  group E: shifts and rotates
 --   shiftSets op               ==  the first of these rows that holds
---   oneOperandSets op          ==  the instructions of group 4 with one operand: NEGX, CLR, NEG, NOT, TST and what else has their bits
---   group4Rows op              ==  group 4                                        "LEA's rule stands first in group 4"
---   group4Sets op              ==  the first of these rows that holds
---   groupSets group op         ==  what an opcode's instruction uses and defines, by its group
+--   groupSets group op         ==  what an opcode's instruction uses and defines, by its group; groups 1 to 3 and 5 are registers', 4 is group_four_masks'
 --   setsOf op                  ==  the same, the group being the opcode's own     "The top four bits choose the group"
 --   masksOf op                 ==  the two masks of an opcode: the answer of reg_masks_060
 --
 -- The masks do not always say what the processor does. That is reproduced on purpose:
 --   EOR Dn,Dm defines nothing (B141 is 0003, 0000), and EXG neither.
---   EXTB falls under LEA's rule (49C0 is 0001, 1000); SWAP and EXT are undecoded.
---   CMP and TST define the register that they only look at.
+--   CMP defines the register that it only looks at.
 --   MULU, MULS, DIVU and DIVS name An where they have Dn, and so does DBcc.
-use Prim.Native.Nat.{ℕ, _/_, _%_}
+-- So with group 4 (group_four_masks/specs/Masks): EXTB, SWAP, EXT and TST.
+use Prim.Native.Nat.{ℕ}
 use mathlib.Core.Bool.{cond, _&&_, _||_}
-use lib.Dec.{eqb, leb, ltb}
+use lib.Dec.{eqb, leb}
 use Rattle.bits.specs.Pattern.{matches}
-use Rattle.bits.specs.Instructions.{size11, lea, tst}
-use Rattle.bits.specs.Fields.{groupOf, modeOf, regOf, dstModeOf, dstRegOf}
+use Rattle.bits.specs.Instructions.{size11}
+use Rattle.bits.specs.Fields.{groupOf, regOf, dstModeOf, dstRegOf}
 use Rattle.bits.specs.Rows.{Rows, otherwise, _⇒_⨾_, first}
 use Rattle.bits.specs.Words.{bit}
 use Rattle.registers.specs.declared.RegMasks060.{RegMasks060}
 use Rattle.registers.specs.Registers.{Regs, D, A, none, union}
 use Rattle.registers.specs.Operands.{Sets, uses_defines_, undecoded, operandUses, operandDefs, moveSets, quickSets, maskPair}
-
-abbrev pub dataOperand : ℕ → ℕ → Regs
-dataOperand mode reg = cond (eqb mode 0) (D reg) none
+use Rattle.group_four_masks.specs.Masks.{group4Sets}
 
 abbrev pub moveqSets : ℕ → Sets
 moveqSets op = uses none defines D (dstRegOf op)
@@ -58,19 +52,6 @@ shiftRows op =
 
 unfoldable pub shiftSets : ℕ → Sets
 shiftSets op = first (shiftRows op)
-
-abbrev pub oneOperandSets : ℕ → Sets
-oneOperandSets op = uses operandUses op defines union (operandDefs op) (dataOperand (modeOf op) (regOf op))
-
--- "LEA's rule stands first in group 4", so EXTB stops there; the second row looks at bits 8 to 11
-abbrev pub group4Rows : ℕ → Rows Sets
-group4Rows op =
-    matches lea op ⇒ (uses operandUses op defines A (dstRegOf op)) ⨾
-    ltb (op / 256 % 16) 7 || matches tst op ⇒ oneOperandSets op ⨾
-    otherwise undecoded
-
-unfoldable pub group4Sets : ℕ → Sets
-group4Sets op = first (group4Rows op)
 
 -- "Undecoded groups give FFFF for both": 0, 6, A and F
 abbrev pub groupSets : ℕ → ℕ → Sets

@@ -1,12 +1,10 @@
 // Part 3 of document 01: the registers that an instruction uses and defines.
 ghost use mathlib.Core.Path.{_≡_};
 ghost use Rattle.registers.specs.Operands.{maskPair};
-ghost use Rattle.masks.specs.Masks.{moveqSets, dyadicSets, shiftSets, group4Sets, masksOf};
+ghost use Rattle.masks.specs.Masks.{moveqSets, dyadicSets, shiftSets};
 use registers::RegMasks060;
 use registers::full;
-use registers::move_masks;
 use registers::operand_masks;
-use registers::quick_masks;
 use registers::select;
 
 pub fn moveq_masks(op: u16) -> RegMasks060
@@ -50,43 +48,5 @@ pub fn shift_masks(op: u16) -> RegMasks060
         }
     } else {
         full()
-    }
-}
-
-pub fn group4_masks(op: u16) -> RegMasks060
-    ensures { λ r. ⌜ r ≡ maskPair (group4Sets op) ⌝ }
-{
-    if (op & 0x01C0) == 0x01C0 {
-        let an = bits::dst_reg_of(op);
-        let ea = operand_masks(op);
-        RegMasks060 {
-            uses: ea.uses,
-            defs: 1 << (8 + an),
-        }
-    } else if (op & 0x0F00) < 0x0700 || (op & 0x0F00) == 0x0A00 {
-        let mode = bits::mode_of(op);
-        let reg = bits::reg_of(op);
-        let ea = operand_masks(op);
-        let operand_def = if mode == 0 { 1 << reg } else { 0 };
-        RegMasks060 {
-            uses: ea.uses,
-            defs: ea.defs | operand_def,
-        }
-    } else {
-        full()
-    }
-}
-
-pub fn reg_masks_060(op: u16) -> RegMasks060
-    ensures { λ r. ⌜ r ≡ masksOf op ⌝ }
-{
-    match op >> 12 {
-        0x1..=0x3 => move_masks(op),
-        0x7 => moveq_masks(op),
-        0x8 | 0x9 | 0xB | 0xC | 0xD => dyadic_masks(op),
-        0x5 => quick_masks(op),
-        0xE => shift_masks(op),
-        0x4 => group4_masks(op),
-        _ => full(),
     }
 }

@@ -9,7 +9,6 @@
 --   costBy, windowBy                   ==  cost and next window, one line for each of document 01's three points
 --   chargedBy                          ==  the cost, and whether the next window is open
 --   costOf r, windowOf r               ==  what the retirement r costs, and the window that it leaves
---   retire r                           ==  cost and next window, as the code hands them back
 --
 -- In `costBy` the base less 1 is 0 where the base is 0, as the Rust's `.max(0)` has it.
 use Prim.Native.Nat.{ℕ, _+_, _-_, max}
@@ -27,7 +26,6 @@ use Rattle.window.specs.declared.Window.{Window}
 use Rattle.branching.specs.declared.Answer.{Answer}
 use Rattle.branching.specs.Branch.{takenOf, branchCost}
 use Rattle.pairing.specs.declared.Charged.{Charged}
-use Rattle.pairing.specs.declared.Retired.{Retired}
 
 abbrev pub flowCost : ℤ → ℕ
 flowCost raw = max (fallbackOf raw) 5
@@ -72,6 +70,3 @@ costOf r = costBy (kindOf (r .instruction) (r .controls)) (r .instruction) (r .c
 
 unfoldable pub windowOf : Retiring → Window
 windowOf r = windowBy (kindOf (r .instruction) (r .controls)) (r .instruction) (r .controls) (r .window)
-
-abbrev pub retire : Retiring → Retired
-retire r = record { cost = clocks (costOf r); window = windowOf r }

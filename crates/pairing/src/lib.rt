@@ -4,13 +4,10 @@ ghost use mathlib.Core.Bool.{not};
 ghost use Prim.Native.Nat.{_-_};
 ghost use lib.Dec.{eqb};
 ghost use Rattle.class_word.specs.Word.{clocks, classOf};
-ghost use Rattle.pairing.specs.Retiring.{retiring, otherKind};
-ghost use Rattle.pairing.specs.Cost.{flowCost, plainOf, baseOf, pairs, asHead, chargedBy, retire};
+ghost use Rattle.pairing.specs.Retiring.{otherKind};
+ghost use Rattle.pairing.specs.Cost.{flowCost, plainOf, baseOf, pairs, chargedBy};
 ghost use Rattle.branching.specs.declared.Answer.the-variants.{NotConsulted};
-use branching::Answer;
 use class_word::Clocks;
-use class_word::F_BRANCH;
-use class_word::F_DEFINES_CCR;
 use class_word::F_EA_INDEXED;
 use class_word::F_UNCLASSIFIED;
 use class_word::F_VARIABLE;
@@ -26,12 +23,6 @@ pub const CYC_060_FLOW_MIN: u32 = 5;
 pub struct Charged {
     pub cost: Clocks,
     pub heads: bool,
-}
-
-// What one retirement costs, and the window that it leaves.
-pub struct Retired {
-    pub cost: Clocks,
-    pub window: Window,
 }
 
 // The larger of the fallback and the refill's floor.
@@ -67,19 +58,6 @@ fn base(i: Instruction, k: Controls) -> Clocks
         return Clocks(cycles.0 + 1);
     }
     cycles
-}
-
-// The window with this instruction as head.
-fn head(i: Instruction, k: Controls) -> Window
-    ensures { λ r. ⌜ r ≡ asHead i k ⌝ }
-{
-    Window {
-        opened: true,
-        defs: i.defs,
-        ccr: i.word.has(F_DEFINES_CCR),
-        mem: dispatch::memory(i.word),
-        warm: k.cached,
-    }
 }
 
 // Whether an instruction that joins no pair becomes the head: class 1 occupies both pipelines.
@@ -126,29 +104,5 @@ pub fn charge_other(i: Instruction, k: Controls, w: Window) -> Charged
     Charged {
         cost: cycles,
         heads: leads(i.word),
-    }
-}
-
-// What one retirement costs, and the window that it leaves: the Rust's cycles_060 past the lookup of the instruction.
-pub fn retire(i: Instruction, k: Controls, w: Window, answer: Answer) -> Retired
-    ensures { λ r. ⌜ r ≡ retire (retiring i k w answer) ⌝ }
-{
-    if i.word.has(F_BRANCH) {
-        return Retired {
-            cost: branching::charge_branch(i, k, w.opened, answer),
-            window: Window::shut(),
-        };
-    }
-    let charged = charge_other(i, k, w);
-    let cost = charged.cost;
-    if charged.heads {
-        return Retired {
-            cost,
-            window: head(i, k),
-        };
-    }
-    Retired {
-        cost,
-        window: Window::shut(),
     }
 }

@@ -22,7 +22,7 @@ pub fn instruction_060(op: u16) -> Instruction
     match op >> 12 {
         0x0 => joined(low_groups::group0(op), registers::full()),
         0x1..=0x3 => joined(low_groups::move_060(op), registers::move_masks(op)),
-        0x4 => joined(group_four::group4(op), masks::group4_masks(op)),
+        0x4 => joined(group_four::group4(op), group_four_masks::group4_masks(op)),
         0x5 => joined(low_groups::group5(op), registers::quick_masks(op)),
         0x6 => joined(low_groups::group6(op), registers::full()),
         0x7 => joined(low_groups::group7(op), masks::moveq_masks(op)),

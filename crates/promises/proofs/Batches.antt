@@ -10,7 +10,7 @@ use lib.Seq.{take-at}
 use Rattle.step.specs.declared.Oep060Timing.{Oep060Timing}
 use Rattle.step.specs.declared.Retirement.{Retirement}
 use Rattle.step.specs.Events.{costs}
-use Rattle.step.specs.Crate.{crateBoard}
+use Rattle.board.specs.Crate.{crateBoard}
 use Rattle.step.specs.Step.{stateOf, seenOf}
 use Rattle.refusals.specs.declared.Verdict.the-variants.{Accepted}
 use Rattle.outcome.specs.declared.Ran.{Ran}
@@ -21,7 +21,7 @@ use Rattle.records.specs.Table.{Accepts}
 use Rattle.trace.proofs.Refused.{run-accepted}
 use Rattle.trace.proofs.Bounds.{accepted-few}
 use Rattle.trace.proofs.Parts.{costs-length}
-use Rattle.turns.specs.Judge.{judgeOf}
+use Rattle.ends.specs.Judge.{judgeOf}
 use Rattle.batch.specs.Batch.{eventsOf, acceptedOf, outcomeBy, batchOf}
 use Rattle.batch.proofs.Refusals.{batch-gives-1, batch-gives-7, batch-accepts}
 use Rattle.promises.specs.Batches.{EveryBatch}

@@ -14,7 +14,8 @@ use Rattle.branch_cache.specs.Cache.{freshOf}
 use Rattle.free.specs.Free.{sound}
 use Rattle.step.specs.Board.{CacheRule, Board}
 use Rattle.profile.specs.Profile.{crateProfile}
-use Rattle.step.specs.Crate.{crateCache, crateBoard}
+use Rattle.step.specs.Crate.{crateCache}
+use Rattle.board.specs.Crate.{crateBoard}
 use Rattle.promises.specs.Demand3.{Sound, Demand3}
 use Rattle.promises.proofs.Opcodes.{every-opcode}
 use Rattle.promises.proofs.Zero.{costs-zero, then-shut}

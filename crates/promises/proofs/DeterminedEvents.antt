@@ -13,8 +13,8 @@ use Rattle.branch_cache.proofs.BranchCache060.fresh.Reads as branch-cache-branc
 use Rattle.branch_cache.proofs.BranchCache060.slot.Reads as branch-cache-branchcache060-slot
 use Rattle.branch_cache.proofs.BranchCache060.clear_all.Reads as branch-cache-branchcache060-clear-all
 use Rattle.branch_cache.proofs.BranchCache060.clear_user.Reads as branch-cache-branchcache060-clear-user
-use Rattle.branch_cache.proofs.BranchCache060.predict.Reads as branch-cache-branchcache060-predict
-use Rattle.branch_cache.proofs.BranchCache060.update.Reads as branch-cache-branchcache060-update
+use Rattle.predictions.proofs.predict.Reads as predictions-predict
+use Rattle.predictions.proofs.update.Reads as predictions-update
 use Rattle.window.proofs.Window.shut.Reads as window-window-shut
 use Rattle.window.proofs.Window.seen.Reads as window-window-seen
 use Rattle.raw.proofs.fallback_cycles.Reads as raw-fallback-cycles
@@ -24,7 +24,6 @@ use Rattle.dispatch.proofs.soep_dispatch_test.Reads as dispatch-soep-dispatch-t
 use Rattle.branching.proofs.branch_cost_060.Reads as branching-branch-cost-060
 use Rattle.branching.proofs.charge_branch.Reads as branching-charge-branch
 use Rattle.pairing.proofs.charge_other.Reads as pairing-charge-other
-use Rattle.pairing.proofs.retire.Reads as pairing-retire
 use Rattle.cycles.proofs.cycles_060.Reads as cycles-cycles-060
 use Rattle.step.proofs.Oep060Timing.fresh.Reads as step-oep060timing-fresh
 use Rattle.step.proofs.Oep060Timing.seen.Reads as step-oep060timing-seen
@@ -58,11 +57,11 @@ module _ (κs : Lifetimes.Lfts 0) where
   pub branch-cache-branchcache060-clear-user-determined : Determined result (branch-cache-branchcache060-clear-user.Post κs)
   branch-cache-branchcache060-clear-user-determined i r r′ x x′ p q = p ∙ sym q
 
-  pub branch-cache-branchcache060-predict-determined : Determined result (branch-cache-branchcache060-predict.Post κs)
-  branch-cache-branchcache060-predict-determined i r r′ x x′ p q = p ∙ sym q
+  pub predictions-predict-determined : Determined result (predictions-predict.Post κs)
+  predictions-predict-determined i r r′ x x′ p q = p ∙ sym q
 
-  pub branch-cache-branchcache060-update-determined : Determined result (branch-cache-branchcache060-update.Post κs)
-  branch-cache-branchcache060-update-determined i r r′ x x′ p q = p ∙ sym q
+  pub predictions-update-determined : Determined result (predictions-update.Post κs)
+  predictions-update-determined i r r′ x x′ p q = p ∙ sym q
 
   pub window-window-shut-determined : Determined result (window-window-shut.Post κs)
   window-window-shut-determined i r r′ x x′ p q = p ∙ sym q
@@ -90,9 +89,6 @@ module _ (κs : Lifetimes.Lfts 0) where
 
   pub pairing-charge-other-determined : Determined result (pairing-charge-other.Post κs)
   pairing-charge-other-determined i r r′ x x′ p q = p ∙ sym q
-
-  pub pairing-retire-determined : Determined result (pairing-retire.Post κs)
-  pairing-retire-determined i r r′ x x′ p q = p ∙ sym q
 
   pub cycles-cycles-060-determined : Determined result (cycles-cycles-060.Post κs)
   cycles-cycles-060-determined i r r′ x x′ p q = p ∙ sym q

@@ -22,7 +22,7 @@ use Rattle.masks.proofs.moveq_masks.Reads as masks-moveq-masks
 use Rattle.masks.proofs.dyadic_masks.Reads as masks-dyadic-masks
 use Rattle.registers.proofs.quick_masks.Reads as masks-quick-masks
 use Rattle.masks.proofs.shift_masks.Reads as masks-shift-masks
-use Rattle.masks.proofs.group4_masks.Reads as masks-group4-masks
+use Rattle.group_four_masks.proofs.group4_masks.Reads as masks-group4-masks
 use Rattle.profile.proofs.instruction_060.Reads as profile-instruction-060
 
 module _ (κs : Lifetimes.Lfts 0) where

@@ -4,7 +4,7 @@ use mathlib.Core.Path.{sym, _∙_}
 use mathlib.Core.List.{[]}
 use contract.Lifetimes
 use denote.Ref.{now}
-use Rattle.in_place.specs.Lent.{lent}
+use Rattle.by_numbers.specs.Lent.{lent}
 use Rattle.in_place.specs.Retire.{paid}
 use Rattle.host_numbers.specs.Ran.{hostOutcome}
 use Rattle.host.specs.Images.{hostImage, hostState}

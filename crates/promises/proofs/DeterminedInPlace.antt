@@ -3,16 +3,16 @@
 use mathlib.Core.Path.{sym, _∙_}
 use contract.Lifetimes
 use denote.Ref.{now}
-use Rattle.in_place.specs.Lent.{lent}
+use Rattle.by_numbers.specs.Lent.{lent}
 use Rattle.in_place.specs.Retire.{paid}
 use Rattle.promises.specs.Determined.{Determined, result}
 use Rattle.numbers.proofs.window_at.Reads as numbers-window-at
 use Rattle.numbers.proofs.put_window.Reads as numbers-put-window
-use Rattle.in_place.proofs.timing_at.Reads as in-place-timing-at
+use Rattle.by_numbers.proofs.timing_at.Reads as in-place-timing-at
 use Rattle.numbers.proofs.put_head.Reads as numbers-put-head
 use Rattle.flags.proofs.number.Reads as flags-number
 use Rattle.flags.proofs.controls_of.Reads as flags-controls-of
-use Rattle.in_place.proofs.retirement.Reads as in-place-retirement
+use Rattle.payload.proofs.retirement.Reads as in-place-retirement
 use Rattle.flags.proofs.flags_of.Reads as flags-flags-of
 use Rattle.in_place.proofs.retire_at.Reads as in-place-retire-at
 use Rattle.in_place.proofs.retire_in_place.Reads as in-place-retire-in-place

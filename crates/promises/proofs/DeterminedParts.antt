@@ -3,11 +3,14 @@
 use mathlib.Core.Path.{sym, _∙_}
 use contract.Lifetimes
 use denote.Ref.{now}
-use Rattle.in_place.specs.Lent.{lent}
+use Rattle.by_numbers.specs.Lent.{lent}
 use Rattle.host_numbers.specs.Ran.{hostOutcome}
+use Rattle.text.specs.Written.{written}
 use Rattle.promises.specs.Determined.{Determined, result}
 use Rattle.kinds.proofs.kind_of.Reads as kind-of
 use Rattle.kinds.proofs.payload_length.Reads as payload-length
+use Rattle.faults.proofs.fault_at.Reads as fault-at
+use Rattle.payload.proofs.retirement_at.Reads as retirement-at
 use Rattle.image_bytes.proofs.put_image.Reads as put-image
 use Rattle.image_state.proofs.header_wrong.Reads as header-wrong
 use Rattle.image_state.proofs.window_wrong.Reads as window-wrong
@@ -19,6 +22,7 @@ use Rattle.host_numbers.proofs.fresh_at.Reads as fresh-at
 use Rattle.host_numbers.proofs.put_timing.Reads as put-timing
 use Rattle.host_numbers.proofs.refused_at.Reads as refused-at
 use Rattle.words.proofs.run_batch_at.Reads as run-batch-at
+use Rattle.table.proofs.put_text.Reads as put-text
 
 module _ (κs : Lifetimes.Lfts 0) where
   pub kind-of-determined : Determined result (kind-of.Post κs)
@@ -31,6 +35,12 @@ module _ (κs : Lifetimes.Lfts 0) where
   host-ran-determined i r r′ x x′ p q = p ∙ sym q
 
 module _ (κs : Lifetimes.Lfts 1) where
+  pub fault-at-determined : Determined result (fault-at.Post κs)
+  fault-at-determined i r r′ x x′ p q = p ∙ sym q
+
+  pub retirement-at-determined : Determined result (retirement-at.Post κs)
+  retirement-at-determined i r r′ x x′ p q = p ∙ sym q
+
   pub put-image-determined : Determined (λ r x. now (x .1 .1 .1 .0)) (put-image.Post κs)
   put-image-determined i r r′ x x′ p q = p ∙ sym q
 
@@ -61,6 +71,9 @@ module _ (κs : Lifetimes.Lfts 3) where
 
   pub put-timing-determined : Determined (λ r x. lent (now (x .0)) (now (x .1 .0)) (now (x .1 .1 .0))) (put-timing.Post κs)
   put-timing-determined i r r′ x x′ p q = p ∙ sym q
+
+  pub put-text-determined : Determined (λ r x. written r (now (x .1 .1 .0))) (put-text.Post κs)
+  put-text-determined i r r′ x x′ p q = p ∙ sym q
 
 module _ (κs : Lifetimes.Lfts 5) where
   pub run-batch-at-determined : Determined

@@ -3,7 +3,7 @@
 use mathlib.Core.Path.{sym, _∙_}
 use contract.Lifetimes
 use denote.Ref.{now}
-use Rattle.in_place.specs.Lent.{lent}
+use Rattle.by_numbers.specs.Lent.{lent}
 use Rattle.running.specs.Turns.{turned}
 use Rattle.trace.specs.Run as run
 use Rattle.image.specs.Entries as image
@@ -13,9 +13,9 @@ use Rattle.listing.specs.Listing as listing
 use Rattle.promises.specs.Determined.{Determined, result}
 use Rattle.little_endian.proofs.u16_at.Reads as u16-at
 use Rattle.little_endian.proofs.u32_at.Reads as u32-at
-use Rattle.little_endian.proofs.i32_of.Reads as i32-of
-use Rattle.little_endian.proofs.put_u16.Reads as put-u16
-use Rattle.little_endian.proofs.put_u32.Reads as put-u32
+use Rattle.signed.proofs.i32_of.Reads as i32-of
+use Rattle.storing.proofs.put_u16.Reads as put-u16
+use Rattle.storing.proofs.put_u32.Reads as put-u32
 use Rattle.record.proofs.read_record.Reads as read-record
 use Rattle.records.proofs.judge.Reads as judge
 use Rattle.numbers.proofs.see_window.Reads as see-window
@@ -23,10 +23,10 @@ use Rattle.running.proofs.run_record.Reads as run-record
 use Rattle.trace.proofs.run_trace.Reads as run-trace
 use Rattle.image.proofs.image_write.Reads as image-write
 use Rattle.image.proofs.image_read.Reads as image-read
-use Rattle.turns.proofs.judge.Reads as judge-batch
-use Rattle.turns.proofs.begin.Reads as begin
+use Rattle.ends.proofs.judge.Reads as judge-batch
+use Rattle.ends.proofs.begin.Reads as begin
 use Rattle.turns.proofs.turn.Reads as turn
-use Rattle.turns.proofs.finish.Reads as finish
+use Rattle.ends.proofs.finish.Reads as finish
 use Rattle.text.proofs.put_bytes.Reads as put-bytes
 use Rattle.text.proofs.put_hex4.Reads as put-hex4
 use Rattle.text.proofs.put_hex2.Reads as put-hex2

@@ -23,9 +23,9 @@ use Rattle.operand.proofs.destination_flags.Reads as operand-destination-flags
 use Rattle.operand.proofs.alu_of.Reads as operand-alu-of
 use Rattle.operand.proofs.unclassified.Reads as operand-unclassified
 use Rattle.operand.proofs.poep_only.Reads as operand-poep-only
-use Rattle.classifier.proofs.classify_060_opcode.Reads as classifier-classify-060-opcode
-use Rattle.classifier.proofs.info_060.Reads as classifier-info-060
-use Rattle.masks.proofs.reg_masks_060.Reads as masks-reg-masks-060
+use Rattle.opcodes.proofs.classify_060_opcode.Reads as opcodes-classify-060-opcode
+use Rattle.opcodes.proofs.info_060.Reads as opcodes-info-060
+use Rattle.opcodes.proofs.reg_masks_060.Reads as opcodes-reg-masks-060
 use Rattle.hex.proofs.hex_digit.Reads as hex-hex-digit
 use Rattle.hex.proofs.hex4.Reads as hex-hex4
 use Rattle.hex.proofs.hex2.Reads as hex-hex2
@@ -84,14 +84,14 @@ module _ (κs : Lifetimes.Lfts 0) where
   pub operand-poep-only-determined : Determined result (operand-poep-only.Post κs)
   operand-poep-only-determined i r r′ x x′ p q = p ∙ sym q
 
-  pub classifier-classify-060-opcode-determined : Determined result (classifier-classify-060-opcode.Post κs)
-  classifier-classify-060-opcode-determined i r r′ x x′ p q = p ∙ sym q
+  pub opcodes-classify-060-opcode-determined : Determined result (opcodes-classify-060-opcode.Post κs)
+  opcodes-classify-060-opcode-determined i r r′ x x′ p q = p ∙ sym q
 
-  pub classifier-info-060-determined : Determined result (classifier-info-060.Post κs)
-  classifier-info-060-determined i r r′ x x′ p q = p ∙ sym q
+  pub opcodes-info-060-determined : Determined result (opcodes-info-060.Post κs)
+  opcodes-info-060-determined i r r′ x x′ p q = p ∙ sym q
 
-  pub masks-reg-masks-060-determined : Determined result (masks-reg-masks-060.Post κs)
-  masks-reg-masks-060-determined i r r′ x x′ p q = p ∙ sym q
+  pub opcodes-reg-masks-060-determined : Determined result (opcodes-reg-masks-060.Post κs)
+  opcodes-reg-masks-060-determined i r r′ x x′ p q = p ∙ sym q
 
   pub hex-hex-digit-determined : Determined result (hex-hex-digit.Post κs)
   hex-hex-digit-determined i r r′ x x′ p q = p ∙ sym q

@@ -2,6 +2,7 @@ pub mod Entries
 pub mod Opcodes
 pub mod Worked
 pub mod Retirements
+pub mod Broken
 pub mod Zero
 pub mod Bounds
 pub mod Reached

@@ -15,8 +15,8 @@ use Rattle.step.specs.declared.Oep060Timing.{Oep060Timing}
 use Rattle.step.specs.declared.Stepped.{Stepped}
 use Rattle.step.specs.declared.Event.the-variants.{Retired}
 use Rattle.step.specs.Events.{retiringOf}
-use Rattle.step.specs.Crate.{crateBoard}
-use Rattle.step.specs.Step.{stateOf, steppedBy, steppedOf, afterOf}
+use Rattle.step.specs.Step.{stateOf, steppedBy}
+use Rattle.board.specs.Crate.{crateBoard, steppedOf, afterOf}
 use Rattle.cycles.proofs.cycles_060.Reads as reads
 use Rattle.promises.specs.Retirements.{EveryEvent}
 use Rattle.promises.specs.Demand3.{joins, folds}

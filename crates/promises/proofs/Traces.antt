@@ -9,8 +9,8 @@ use Rattle.step.specs.declared.Oep060Timing.{Oep060Timing}
 use Rattle.step.specs.declared.Event.{Event}
 use Rattle.step.specs.declared.Event.the-variants.{Retired, Broken, ClearedAll, ClearedUser}
 use Rattle.step.specs.Events.{retiringOf, retirements, finally, costs}
-use Rattle.step.specs.Crate.{crateBoard}
-use Rattle.step.specs.Step.{stateOf, timingOf, seenOf, steppedBy, steppedOf, afterOf}
+use Rattle.step.specs.Step.{stateOf, timingOf, seenOf, steppedBy}
+use Rattle.board.specs.Crate.{crateBoard, steppedOf, afterOf}
 use Rattle.trace.proofs.Refused.{run-refused, run-refused-only, run-accepted}
 use Rattle.trace.proofs.Parts.{run-parts}
 use Rattle.promises.specs.Traces.{Stepped, stepped, EveryTrace}

@@ -20,8 +20,8 @@ use Rattle.step.specs.declared.Oep060Timing.{Oep060Timing}
 use Rattle.step.specs.declared.Retirement.{Retirement}
 use Rattle.step.specs.declared.Event.the-variants.{Retired, Broken, ClearedAll, ClearedUser}
 use Rattle.step.specs.Events.{retiringOf}
-use Rattle.step.specs.Crate.{crateBoard}
-use Rattle.step.specs.Step.{stateOf, steppedOf, afterOf}
+use Rattle.step.specs.Step.{stateOf}
+use Rattle.board.specs.Crate.{crateBoard, steppedOf, afterOf}
 
 pub record Pairs (r : Retiring) : Type 0 where
   pub straight : has (r .instruction .word .0) BRANCH ≡ false

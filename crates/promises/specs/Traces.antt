@@ -12,7 +12,8 @@ use lib.ListN.{length}
 use Rattle.step.specs.declared.Oep060Timing.{Oep060Timing}
 use Rattle.step.specs.declared.Event.{Event}
 use Rattle.step.specs.declared.Event.the-variants.{Retired, Broken, ClearedAll, ClearedUser}
-use Rattle.step.specs.Step.{seenOf, steppedOf, afterOf}
+use Rattle.step.specs.Step.{seenOf}
+use Rattle.board.specs.Crate.{steppedOf, afterOf}
 use Rattle.refusals.specs.declared.Refusal.{Refusal}
 use Rattle.refusals.specs.declared.Verdict.the-variants.{Accepted, Refused}
 use Rattle.outcome.specs.Runs.{refusedOf}

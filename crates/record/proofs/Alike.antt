@@ -14,7 +14,9 @@ use Rattle.step.specs.declared.Event.the-variants.{Retired}
 use Rattle.kinds.specs.declared.Kind.{Kind}
 use Rattle.kinds.specs.declared.Kind.the-variants.{Retirement, Break, ClearAll, ClearUser}
 use Rattle.kinds.specs.Kinds.{payloadLength}
-use Rattle.record.specs.Record.{remaining, nextPlace, retirementAt, eventAt, highFlag}
+use Rattle.faults.specs.Faults.{nextPlace, highFlag}
+use Rattle.payload.specs.Payload.{retirementAt}
+use Rattle.record.specs.Record.{remaining, eventAt}
 use Rattle.record.specs.Table.{Whole, whole}
 
 number-front : (width : ℕ) (a b : List ℕ) (at : ℕ) → at + width ≤ length a → numberAt width (a ++ b) at ≡ numberAt width a at

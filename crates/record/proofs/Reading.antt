@@ -11,6 +11,8 @@ use borrow.Author.Tests.{lt-ltb, le-ltb, eq-eqb, ne-eqb, ltb-false}
 use Rattle.step.specs.declared.Event.{Event}
 use Rattle.step.specs.declared.Event.the-variants.{Retired, Broken, ClearedAll, ClearedUser}
 use Rattle.refusals.specs.declared.Refusal.the-variants.{Remainder, Length, Cut, Flag}
+use Rattle.refusals.specs.declared.Verdict.{Verdict}
+use Rattle.refusals.specs.declared.Verdict.the-variants.{Accepted, Refused}
 use Rattle.kinds.specs.declared.Kind.{Kind}
 use Rattle.kinds.specs.declared.Kind.the-variants.{Retirement, Break, ClearAll, ClearUser}
 use Rattle.kinds.specs.declared.KindRead.{KindRead}
@@ -18,7 +20,9 @@ use Rattle.kinds.specs.declared.KindRead.the-variants.{Known, Unknown}
 use Rattle.record.specs.declared.Read.{Read}
 use Rattle.record.specs.declared.Read.the-variants.{Got, Bad, End}
 use Rattle.kinds.specs.Kinds.{kindNumber, payloadLength, kindOf}
-use Rattle.record.specs.Record.{remaining, lengthAt, kindAt, nextPlace, eventAt, highFlag, recordAt, bodyAt, readAt}
+use Rattle.faults.specs.Faults.{lengthAt, nextPlace, highFlag, faultAt}
+use Rattle.faults.proofs.Faults.{fault-length, fault-cut, fault-flag, fault-none}
+use Rattle.record.specs.Record.{remaining, kindAt, eventAt, takenBy, recordAt, bodyAt, readAt}
 use Rattle.record.proofs.Choices.{by-test}
 use Rattle.record.proofs.KindNumbers.{kind-found}
 
@@ -47,23 +51,24 @@ module _ (trace : List ℕ) (at : ℕ) where
   read-kind kind h e = read-body h ∙ ap (bodyAt trace at) (kind-found kind e)
 
   module _ (kind : Kind) where
-    pub record-length : (lengthAt trace at ≡ payloadLength kind → ⊥) → recordAt trace at kind ≡ Bad (Length at)
+    -- what the verdict makes of it
+    pub record-by : {verdict : Verdict} → faultAt trace at kind ≡ verdict → recordAt trace at kind ≡ takenBy verdict (eventAt trace at kind) (nextPlace at kind)
     unfolding recordAt
-    record-length n = simp (ne-eqb _ _ n)
+    record-by q = ap (λ (v : Verdict). takenBy v (eventAt trace at kind) (nextPlace at kind)) q
+
+    pub record-length : (lengthAt trace at ≡ payloadLength kind → ⊥) → recordAt trace at kind ≡ Bad (Length at)
+    record-length n = record-by (fault-length trace at kind n)
 
     module _ (right : lengthAt trace at ≡ payloadLength kind) where
       pub record-cut : length trace < nextPlace at kind → recordAt trace at kind ≡ Bad (Cut at)
-      unfolding recordAt
-      record-cut h = simp (eq-eqb _ _ right, lt-ltb _ _ h)
+      record-cut h = record-by (fault-cut trace at kind right h)
 
       module _ (whole : nextPlace at kind ≤ length trace) where
         pub record-flag : highFlag trace at kind ≡ true → recordAt trace at kind ≡ Bad (Flag at)
-        unfolding recordAt
-        record-flag h = simp (eq-eqb _ _ right, le-ltb _ _ whole, h)
+        record-flag h = record-by (fault-flag trace at kind right whole h)
 
         pub record-whole : highFlag trace at kind ≡ false → recordAt trace at kind ≡ Got (eventAt trace at kind) (nextPlace at kind)
-        unfolding recordAt
-        record-whole h = simp (eq-eqb _ _ right, le-ltb _ _ whole, h)
+        record-whole h = record-by (fault-none trace at kind right whole h)
 
   -- a record that was read takes 4 bytes and its payload, and ends within the trace
   abbrev pub Within : Read → Type 0
@@ -77,13 +82,26 @@ module _ (trace : List ℕ) (at : ℕ) where
   within-event ClearAll h = (omega arith, h)
   within-event ClearUser h = (omega arith, h)
 
+  -- a record that is taken is all there
+  abbrev pub Held : Kind → Verdict → Type 0
+  Held kind Accepted = nextPlace at kind ≤ length trace
+  Held kind (Refused refusal) = Unit {0}
+
+  pub held : (kind : Kind) → Held kind (faultAt trace at kind)
+  unfolding faultAt
+  held kind =
+      by-test (Held kind) (not (eqb (lengthAt trace at) (payloadLength kind))) _ _ (λ _. tt)
+      (λ _. by-test (Held kind) (ltb (length trace) (nextPlace at kind)) _ _ (λ _. tt)
+      (λ h. by-test (Held kind) (highFlag trace at kind) _ _ (λ _. tt) (λ _. ltb-false _ _ h)))
+
+  within-taken : (kind : Kind) (verdict : Verdict) → Held kind verdict → Within (takenBy verdict (eventAt trace at kind) (nextPlace at kind))
+  within-taken kind Accepted h = within-event kind h
+  within-taken kind (Refused refusal) h = tt
+
   within-body : (kind : KindRead) → Within (bodyAt trace at kind)
   unfolding recordAt
   within-body Unknown = tt
-  within-body (Known kind) =
-      by-test Within (not (eqb (lengthAt trace at) (payloadLength kind))) _ _ (λ _. tt)
-      (λ _. by-test Within (ltb (length trace) (nextPlace at kind)) _ _ (λ _. tt)
-      (λ h. by-test Within (highFlag trace at kind) _ _ (λ _. tt) (λ _. within-event kind (ltb-false _ _ h))))
+  within-body (Known kind) = within-taken kind (faultAt trace at kind) (held kind)
 
   within : Within (readAt trace at)
   unfolding readAt

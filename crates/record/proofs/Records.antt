@@ -11,6 +11,7 @@ use borrow.Author.Tests.{lt-ltb, ltb-true, ltb-false, eqb-true, eqb-false, not-t
 use Rattle.step.specs.declared.Event.{Event}
 use Rattle.refusals.specs.declared.Refusal.{Refusal}
 use Rattle.refusals.specs.declared.Refusal.the-variants.{Flag}
+use Rattle.refusals.specs.declared.Verdict.{Verdict}
 use Rattle.kinds.specs.declared.Kind.{Kind}
 use Rattle.kinds.specs.declared.Kind.the-variants.{Retirement, Break, ClearAll, ClearUser}
 use Rattle.kinds.specs.declared.KindRead.{KindRead}
@@ -18,7 +19,8 @@ use Rattle.kinds.specs.declared.KindRead.the-variants.{Known, Unknown}
 use Rattle.record.specs.declared.Read.{Read}
 use Rattle.record.specs.declared.Read.the-variants.{Got, Bad, End}
 use Rattle.kinds.specs.Kinds.{payloadLength, kindOf}
-use Rattle.record.specs.Record.{remaining, lengthAt, kindAt, nextPlace, highFlag, recordAt, bodyAt, readAt}
+use Rattle.faults.specs.Faults.{lengthAt, nextPlace, highFlag, faultAt}
+use Rattle.record.specs.Record.{remaining, kindAt, eventAt, takenBy, recordAt, bodyAt, readAt}
 use Rattle.record.specs.Table.{Headed, Faulty, row2, row3, row4, row5, row6, Whole, whole}
 use Rattle.record.proofs.Choices.{by-test}
 use Rattle.record.proofs.KindNumbers.{Says, kind-says, kind-missing}
@@ -51,18 +53,19 @@ module _ (trace : List ℕ) (at : ℕ) where
   flagged ClearUser h e w f = absurd (true≢false (sym f))
 
   record-explained : (kind : Kind) → Headed trace at kind → Explained (recordAt trace at kind)
-  unfolding recordAt
+  unfolding recordAt faultAt
   record-explained kind h =
-      by-test Explained (not (eqb (lengthAt trace at) (payloadLength kind))) _ _
+      let Said : Verdict → Type 0 = λ v. Explained (takenBy v (eventAt trace at kind) (nextPlace at kind)) in
+      by-test Said (not (eqb (lengthAt trace at) (payloadLength kind))) _ _
       (λ t. row4 kind (eqb-false _ _ (not-true _ t)) h)
       (λ t.
       let e : lengthAt trace at ≡ payloadLength kind = eqb-true _ _ (not-false _ t) in
-      by-test Explained (ltb (length trace) (nextPlace at kind)) _ _
+      by-test Said (ltb (length trace) (nextPlace at kind)) _ _
       (λ c. let l : length trace < nextPlace at kind = ltb-true _ _ c in row5 kind (omega arith) h e)
       (λ c.
       let l : nextPlace at kind ≤ length trace = ltb-false _ _ c in
       let w : 4 + payloadLength kind ≤ remaining trace at = omega arith in
-      by-test Explained (highFlag trace at kind) _ _ (flagged kind h e w) (whole kind h e w)))
+      by-test Said (highFlag trace at kind) _ _ (flagged kind h e w) (whole kind h e w)))
 
   body-explained : 4 ≤ remaining trace at → (kind : KindRead) → Says (kindAt trace at) kind → Explained (bodyAt trace at kind)
   body-explained h Unknown n = row3 n h

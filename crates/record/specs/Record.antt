@@ -2,71 +2,40 @@
 --
 -- `at` is the place in the trace where a record starts.
 --   remaining trace at        ==  how many bytes remain from there on
---   lengthAt trace at         ==  the payload length that the record names       "A record is a 2-byte payload length, a 2-byte kind, then the
---   kindAt trace at           ==  the number of the kind that it names           payload, little-endian"
---   nextPlace at kind         ==  the place after a record of this kind
---   opcodeAt trace at         ==  the opcode in a retirement's payload           "opcode 2, flags 2, ppc 4, pc 4, raw 4 signed"
---   flagsAt trace at          ==  the flags, one behind the other
---   ppcAt, pcAt trace at      ==  the two addresses
---   rawAt trace at            ==  the raw count
---   retirementAt trace at     ==  the retirement in the payload                  by in_place's `retirementOf`, which has the flag bits
---   eventAt trace at kind     ==  the event that a record of this kind stands for
---   highFlag trace at kind    ==  the record has a flag without a meaning        "a flag above bit 4"; only retirements have flags
---   recordAt trace at kind    ==  a record of this kind: its event and the place after it, or refusal 4, 5 or 6, tried in this order
+--   kindAt trace at           ==  the number of the kind that the record names         "A record is a 2-byte payload length, a 2-byte kind, .."
+--   eventAt trace at kind     ==  the event that a record of this kind stands for      by payload's `retirementAt`
+--   takenBy verdict e next    ==  this event and this place, if the verdict takes the record; else the refusal
+--   recordAt trace at kind    ==  a record of this kind: its event and the place after it, or refusal 4, 5 or 6; by faults' `faultAt`
 --   bodyAt trace at kind      ==  the same for the kind as it was read; refusal 3 where it is Unknown
 --   readAt trace at           ==  what stands at the place: the trace's end, or refusal 2, or the record
 --
 -- The place of each of these refusals is the "record start", so each carries `at`.
 use Prim.Native.Nat.{ℕ, _+_, _-_}
-use mathlib.Core.Bool.{Bool, false, not}
 use mathlib.Core.List.{List}
 use lib.Dec.{eqb, ltb}
-use lib.IntN.{ℤ}
 use lib.ListN.{length}
 use Rattle.bits.specs.Rows.{otherwise, _⇒_⨾_, first}
-use Rattle.little_endian.specs.Numbers.{numberAt, signedOf}
-use Rattle.step.specs.declared.Retirement.{Retirement}
+use Rattle.little_endian.specs.Numbers.{numberAt}
 use Rattle.step.specs.declared.Event.{Event}
 use Rattle.step.specs.declared.Event.the-variants.{Retired, Broken, ClearedAll, ClearedUser}
-use Rattle.in_place.specs.Retire.{retirementOf}
-use Rattle.refusals.specs.declared.Refusal.the-variants.{Remainder, Kind, Length, Cut, Flag}
+use Rattle.faults.specs.Faults.{nextPlace, faultAt}
+use Rattle.payload.specs.Payload.{retirementAt}
+use Rattle.refusals.specs.declared.Refusal.the-variants.{Remainder, Kind}
+use Rattle.refusals.specs.declared.Verdict.{Verdict}
+use Rattle.refusals.specs.declared.Verdict.the-variants.{Accepted, Refused}
 use Rattle.kinds.specs.declared.Kind as declared
 use Rattle.kinds.specs.declared.Kind.the-variants as K
 use Rattle.kinds.specs.declared.KindRead.{KindRead}
 use Rattle.kinds.specs.declared.KindRead.the-variants.{Known, Unknown}
 use Rattle.record.specs.declared.Read.{Read}
 use Rattle.record.specs.declared.Read.the-variants.{Got, Bad, End}
-use Rattle.kinds.specs.Kinds.{payloadLength, kindOf}
+use Rattle.kinds.specs.Kinds.{kindOf}
 
 abbrev pub remaining : List ℕ → ℕ → ℕ
 remaining trace at = length trace - at
 
-abbrev pub lengthAt : List ℕ → ℕ → ℕ
-lengthAt trace at = numberAt 2 trace at
-
 abbrev pub kindAt : List ℕ → ℕ → ℕ
 kindAt trace at = numberAt 2 trace (at + 2)
-
-abbrev pub nextPlace : ℕ → declared.Kind → ℕ
-nextPlace at kind = at + 4 + payloadLength kind
-
-abbrev pub opcodeAt : List ℕ → ℕ → ℕ
-opcodeAt trace at = numberAt 2 trace (at + 4)
-
-abbrev pub flagsAt : List ℕ → ℕ → ℕ
-flagsAt trace at = numberAt 2 trace (at + 6)
-
-abbrev pub ppcAt : List ℕ → ℕ → ℕ
-ppcAt trace at = numberAt 4 trace (at + 8)
-
-abbrev pub pcAt : List ℕ → ℕ → ℕ
-pcAt trace at = numberAt 4 trace (at + 12)
-
-abbrev pub rawAt : List ℕ → ℕ → ℤ
-rawAt trace at = signedOf (numberAt 4 trace (at + 16))
-
-unfoldable pub retirementAt : List ℕ → ℕ → Retirement
-retirementAt trace at = retirementOf (opcodeAt trace at) (flagsAt trace at) (ppcAt trace at) (pcAt trace at) (rawAt trace at)
 
 abbrev pub eventAt : List ℕ → ℕ → declared.Kind → Event
 eventAt trace at K.Retirement = Retired (retirementAt trace at)
@@ -74,20 +43,12 @@ eventAt trace at K.Break = Broken
 eventAt trace at K.ClearAll = ClearedAll
 eventAt trace at K.ClearUser = ClearedUser
 
--- the flags 0 to 4 together are 31
-abbrev pub highFlag : List ℕ → ℕ → declared.Kind → Bool
-highFlag trace at K.Retirement = ltb 31 (flagsAt trace at)
-highFlag trace at K.Break = false
-highFlag trace at K.ClearAll = false
-highFlag trace at K.ClearUser = false
+abbrev pub takenBy : Verdict → Event → ℕ → Read
+takenBy Accepted e next = Got e next
+takenBy (Refused refusal) e next = Bad refusal
 
 unfoldable pub recordAt : List ℕ → ℕ → declared.Kind → Read
-recordAt trace at kind =
-    first
-    (not (eqb (lengthAt trace at) (payloadLength kind)) ⇒ Bad (Length at) ⨾
-    ltb (length trace) (nextPlace at kind) ⇒ Bad (Cut at) ⨾
-    highFlag trace at kind ⇒ Bad (Flag at) ⨾
-    otherwise (Got (eventAt trace at kind) (nextPlace at kind)))
+recordAt trace at kind = takenBy (faultAt trace at kind) (eventAt trace at kind) (nextPlace at kind)
 
 abbrev pub bodyAt : List ℕ → ℕ → KindRead → Read
 bodyAt trace at Unknown = Bad (Kind at)

@@ -15,7 +15,8 @@ use Rattle.refusals.specs.declared.Refusal.the-variants.{Remainder, Kind, Lengt
 use Rattle.kinds.specs.declared.Kind as declared
 use Rattle.kinds.specs.declared.Kind.the-variants as K
 use Rattle.kinds.specs.Kinds.{kindNumber, payloadLength}
-use Rattle.record.specs.Record.{remaining, lengthAt, kindAt, flagsAt, nextPlace, eventAt, highFlag}
+use Rattle.faults.specs.Faults.{lengthAt, flagsAt, nextPlace, highFlag}
+use Rattle.record.specs.Record.{remaining, kindAt, eventAt}
 
 abbrev pub Headed : List ℕ → ℕ → declared.Kind → Type 0
 Headed trace at kind = (4 ≤ remaining trace at) × (kindAt trace at ≡ kindNumber kind)

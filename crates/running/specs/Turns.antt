@@ -10,8 +10,8 @@ use Prim.Native.Nat.{ℕ}
 use mathlib.Core.List.{[], _∷_}
 use Rattle.step.specs.declared.Event.{Event}
 use Rattle.step.specs.declared.Event.the-variants.{Retired, Broken, ClearedAll, ClearedUser}
-use Rattle.step.specs.Step.{afterOf}
-use Rattle.in_place.specs.Lent.{Lent, stateAt, lentOf}
+use Rattle.board.specs.Crate.{afterOf}
+use Rattle.by_numbers.specs.Lent.{Lent, stateAt, lentOf}
 use Rattle.in_place.specs.Retire.{Paid, paid, retireAtOf}
 use Rattle.record.specs.declared.Read.{Read}
 use Rattle.record.specs.declared.Read.the-variants.{Got, Bad, End}

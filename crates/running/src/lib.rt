@@ -4,7 +4,7 @@ ghost use mathlib.Core.List.{List};
 ghost use Prim.Native.Nat.{ℕ};
 ghost use Rattle.branch_cache.specs.Cache.{clearUserOf};
 ghost use Rattle.step.specs.Crate.{cacheAt};
-ghost use Rattle.in_place.specs.Lent.{lent};
+ghost use Rattle.by_numbers.specs.Lent.{lent};
 ghost use Rattle.record.specs.Record.{readAt};
 ghost use Rattle.running.specs.Turns.{turned, turnFor, turnOf};
 use branch_cache::BranchCache060;

@@ -9,10 +9,12 @@
 --   meets s i k      ==  an instruction as it retires in a state: with the controls, the window and the cache's answer
 --   past s i k       ==  the state after it
 --   seenState s      ==  a state as it is read                    "read, and handed back, as if they were zero"
+--   brokenState s    ==  the state after a break                  "A break shuts the window in place and touches nothing else"
+--   clearedState s   ==  the state after a clear of all           "tags and window stay"
+--   userCleared s    ==  the state after a clear of user entries
 --   Event            ==  a retirement, a break, a clear of all, a clear of user entries: the enum of the code
 --   retiringOf s r   ==  a retirement as it is met in a state
---   after s e        ==  the state after an event                 "A break shuts the window in place and touches nothing else";
---                                                                 "tags and window stay"
+--   after s e        ==  the state after an event
 --   retirements s es ==  the retirements of a run of events, each as it was met
 --   finally s es     ==  the state after a run of events
 --   costs s es       ==  what each retirement of a run costs
@@ -69,15 +71,24 @@ module _ (K : CacheRule) where
   abbrev pub seenState : State K → State K
   seenState s = record { cache = s .cache; window = seen (s .window) }
 
+  abbrev pub brokenState : State K → State K
+  brokenState s = record { cache = s .cache; window = shut }
+
+  abbrev pub clearedState : State K → State K
+  clearedState s = record { cache = K .clearAll (s .cache); window = seen (s .window) }
+
+  abbrev pub userCleared : State K → State K
+  userCleared s = record { cache = K .clearUser (s .cache); window = seen (s .window) }
+
 module _ (B : Board) where
   abbrev pub retiringOf : State (B .rule) → Retirement → Retiring
   retiringOf s r = meets (B .rule) s (B .profile (r .op)) (r .controls)
 
   abbrev pub after : State (B .rule) → Event → State (B .rule)
   after s (Retired r) = past (B .rule) s (B .profile (r .op)) (r .controls)
-  after s Broken = record { cache = s .cache; window = shut }
-  after s ClearedAll = record { cache = B .rule .clearAll (s .cache); window = seen (s .window) }
-  after s ClearedUser = record { cache = B .rule .clearUser (s .cache); window = seen (s .window) }
+  after s Broken = brokenState (B .rule) s
+  after s ClearedAll = clearedState (B .rule) s
+  after s ClearedUser = userCleared (B .rule) s
 
   unfoldable pub retirements : State (B .rule) → List Event → List Retiring
   retirements s [] = []

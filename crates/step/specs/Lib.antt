@@ -2,8 +2,8 @@
 --
 --   Board    ==  what is chosen at the start: how an opcode is read, and which branch cache is asked
 --   Events   ==  retirements, breaks and clears over any board: the state after each, and a run of them
---   Crate    ==  the board of document 000
---   Step     ==  the same as the structs of the code hold it
+--   Crate    ==  the branch cache of document 000
+--   Step     ==  its state as the structs of the code hold it
 pub mod Board
 pub mod Events
 pub mod Crate

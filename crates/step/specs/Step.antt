@@ -1,18 +1,19 @@
--- One event on the crate's state, as the structs of the code hold it. The Rust: Oep060Timing, cycles_060, break_060_pipeline.
+-- The crate's state as the structs of the code hold it, and what happens to it whatever the opcodes are. The Rust: Oep060Timing,
+-- break_060_pipeline, clear_all, clear_user.
 --
 --   stateOf t, timingOf s   ==  the state that a struct holds, and the struct that holds a state
 --   timingAt ts bs w        ==  the struct of these tags, bytes and window
 --   Asked, asked a c        ==  the cache's answer together with the next cache
 --   askedOf c i k           ==  the same of a cache, when an instruction retires
 --   steppedBy t i k         ==  the whole state and the cost after an instruction retires
---   steppedOf t r           ==  the same for a retirement in the crate's profile
---   afterOf t e             ==  the state after an event
 --   seenOf t                ==  the state as it is read
+--   brokenOf t              ==  the state after a break
+--   clearedOf t             ==  the state after a clear of all
+--   userClearedOf t         ==  the state after a clear of user entries
 --   freshOf                 ==  "a fresh state (zeros, window shut)"
 use Prim.Native.Nat.{ℕ}
 use mathlib.Core.List.{List}
 use Rattle.class_word.specs.Word.{clocks}
-use Rattle.profile.specs.Profile.{crateProfile}
 use Rattle.branch_cache.specs.declared.BranchCache060.{BranchCache060}
 use Rattle.branch_cache.specs.Cache as cache
 use Rattle.dispatch.specs.declared.Instruction.{Instruction}
@@ -20,13 +21,11 @@ use Rattle.dispatch.specs.declared.Controls.{Controls}
 use Rattle.window.specs.declared.Window.{Window}
 use Rattle.window.specs.Windows.{shut}
 use Rattle.branching.specs.declared.Answer.{Answer}
-use Rattle.pairing.specs.Cost.{costOf, windowOf}
-use Rattle.step.specs.declared.Retirement.{Retirement}
-use Rattle.step.specs.declared.Event.{Event}
+use Rattle.pairing.specs.Cost.{costOf}
 use Rattle.step.specs.declared.Oep060Timing.{Oep060Timing}
 use Rattle.step.specs.declared.Stepped.{Stepped}
-use Rattle.step.specs.Events.{State, answerOf, cacheAfter, meets, past, after, seenState}
-use Rattle.step.specs.Crate.{cacheAt, crateCache, crateBoard}
+use Rattle.step.specs.Events.{State, answerOf, cacheAfter, meets, past, seenState, brokenState, clearedState, userCleared}
+use Rattle.step.specs.Crate.{cacheAt, crateCache}
 
 abbrev pub stateOf : Oep060Timing → State crateCache
 stateOf t = record { cache = t .cache; window = t .window }
@@ -50,14 +49,17 @@ askedOf c i k = asked (answerOf crateCache c i k) (cacheAfter crateCache c i k)
 unfoldable pub steppedBy : Oep060Timing → Instruction → Controls → Stepped
 steppedBy t i k = record { timing = timingOf (past crateCache (stateOf t) i k); cost = clocks (costOf (meets crateCache (stateOf t) i k)) }
 
-abbrev pub steppedOf : Oep060Timing → Retirement → Stepped
-steppedOf t r = steppedBy t (crateProfile (r .op)) (r .controls)
-
-abbrev pub afterOf : Oep060Timing → Event → Oep060Timing
-afterOf t e = timingOf (after crateBoard (stateOf t) e)
-
 abbrev pub seenOf : Oep060Timing → Oep060Timing
 seenOf t = timingOf (seenState crateCache (stateOf t))
+
+abbrev pub brokenOf : Oep060Timing → Oep060Timing
+brokenOf t = timingOf (brokenState crateCache (stateOf t))
+
+abbrev pub clearedOf : Oep060Timing → Oep060Timing
+clearedOf t = timingOf (clearedState crateCache (stateOf t))
+
+abbrev pub userClearedOf : Oep060Timing → Oep060Timing
+userClearedOf t = timingOf (userCleared crateCache (stateOf t))
 
 abbrev pub freshOf : Oep060Timing
 freshOf = record { cache = cache.freshOf; window = shut }

@@ -1,7 +1,6 @@
-// Part 5 of document 01: what one event does to a state.
+// Part 5 of document 01: the state that a host keeps, and what can happen to it.
 ghost use mathlib.Core.Path.{_≡_};
-ghost use Rattle.step.specs.Step.{afterOf, seenOf, freshOf};
-ghost use Rattle.step.specs.declared.Event.the-variants.{Broken, ClearedAll, ClearedUser};
+ghost use Rattle.step.specs.Step.{seenOf, brokenOf, clearedOf, userClearedOf, freshOf};
 use branch_cache::BranchCache060;
 use class_word::Clocks;
 use dispatch::Controls;
@@ -55,7 +54,7 @@ impl Oep060Timing {
 
     // The rule of break_060_pipeline, by value.
     pub fn broken(self) -> Self
-        ensures { λ r. ⌜ r ≡ afterOf self Broken ⌝ }
+        ensures { λ r. ⌜ r ≡ brokenOf self ⌝ }
     {
         let cache = self.cache;
         let window = Window::shut();
@@ -63,7 +62,7 @@ impl Oep060Timing {
     }
 
     pub fn clear_all(self) -> Self
-        ensures { λ r. ⌜ r ≡ afterOf self ClearedAll ⌝ }
+        ensures { λ r. ⌜ r ≡ clearedOf self ⌝ }
     {
         let cache = self.cache.clear_all();
         let window = self.window.seen();
@@ -71,7 +70,7 @@ impl Oep060Timing {
     }
 
     pub fn clear_user(self) -> Self
-        ensures { λ r. ⌜ r ≡ afterOf self ClearedUser ⌝ }
+        ensures { λ r. ⌜ r ≡ userClearedOf self ⌝ }
     {
         let cache = self.cache.clear_user();
         let window = self.window.seen();

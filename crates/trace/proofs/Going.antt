@@ -13,7 +13,8 @@ use Rattle.step.specs.declared.Event.{Event}
 use Rattle.step.specs.declared.Event.the-variants.{Retired}
 use Rattle.step.specs.declared.Oep060Timing.{Oep060Timing}
 use Rattle.step.specs.declared.Stepped.{Stepped}
-use Rattle.step.specs.Step.{steppedOf, afterOf, seenOf}
+use Rattle.step.specs.Step.{seenOf}
+use Rattle.board.specs.Crate.{steppedOf, afterOf}
 use Rattle.refusals.specs.declared.Refusal.{Refusal}
 use Rattle.record.specs.declared.Read.the-variants.{Got, Bad, End}
 use Rattle.record.specs.Record.{readAt}

@@ -14,7 +14,8 @@ use Rattle.step.specs.declared.Event.the-variants.{Retired, Broken, ClearedAll,
 use Rattle.step.specs.declared.Oep060Timing.{Oep060Timing}
 use Rattle.step.specs.Board.{Board}
 use Rattle.step.specs.Events.{State, retiringOf, after, retirements, finally, costs, total}
-use Rattle.step.specs.Crate.{crateCache, crateBoard}
+use Rattle.step.specs.Crate.{crateCache}
+use Rattle.board.specs.Crate.{crateBoard}
 use Rattle.step.specs.Step.{stateOf, timingOf, seenOf}
 use Rattle.refusals.specs.declared.Verdict.the-variants.{Accepted}
 use Rattle.records.specs.Trace.{countOf}

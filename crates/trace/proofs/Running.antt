@@ -15,8 +15,9 @@ use Rattle.step.specs.declared.Event.the-variants.{Retired, Broken, ClearedAll,
 use Rattle.step.specs.declared.Oep060Timing.{Oep060Timing}
 use Rattle.step.specs.declared.Stepped.{Stepped}
 use Rattle.step.specs.Events.{State, retiringOf, after, retirements, costs, finally, total}
-use Rattle.step.specs.Crate.{crateCache, crateBoard}
-use Rattle.step.specs.Step.{stateOf, timingOf, steppedBy, steppedOf, afterOf, seenOf}
+use Rattle.step.specs.Crate.{crateCache}
+use Rattle.step.specs.Step.{stateOf, timingOf, steppedBy, seenOf}
+use Rattle.board.specs.Crate.{crateBoard, steppedOf, afterOf}
 use Rattle.outcome.specs.Runs.{refusedOf}
 use Rattle.records.specs.Trace.{Trace, events, refused, ahead, countOf}
 use Rattle.records.specs.Judged.{Fits}

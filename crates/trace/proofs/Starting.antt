@@ -7,12 +7,13 @@ use Rattle.window.specs.declared.Window.{Window}
 use Rattle.window.specs.Windows.{seen}
 use Rattle.step.specs.declared.Oep060Timing.{Oep060Timing}
 use Rattle.step.specs.Events.{State, costs, finally, total}
-use Rattle.step.specs.Crate.{crateCache, crateBoard}
+use Rattle.step.specs.Crate.{crateCache}
+use Rattle.board.specs.Crate.{crateBoard}
 use Rattle.step.specs.Step.{stateOf, timingOf, timingAt, seenOf}
 use Rattle.refusals.specs.declared.Verdict.the-variants.{Refused}
 use Rattle.little_endian.specs.Numbers.{putAt}
 use Rattle.numbers.specs.Windows.{windowAt, numbersOf}
-use Rattle.in_place.specs.Lent.{lent, stateAt}
+use Rattle.by_numbers.specs.Lent.{lent, stateAt}
 use Rattle.numbers.proofs.Held.{window-held}
 use Rattle.records.specs.Trace.{Trace, events, refused, countOf}
 use Rattle.trace.specs.Run.{costBytes, outcome, ranAt, outcomeOf}

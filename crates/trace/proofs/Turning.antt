@@ -10,8 +10,9 @@ use Rattle.little_endian.specs.Numbers.{bytesOf, putAt}
 use Rattle.step.specs.declared.Event.{Event}
 use Rattle.step.specs.declared.Event.the-variants.{Retired, Broken, ClearedAll, ClearedUser}
 use Rattle.step.specs.declared.Oep060Timing.{Oep060Timing}
-use Rattle.step.specs.Step.{timingAt, steppedOf, afterOf}
-use Rattle.in_place.specs.Lent.{Lent, stateAt, lentOf}
+use Rattle.step.specs.Step.{timingAt}
+use Rattle.board.specs.Crate.{steppedOf, afterOf}
+use Rattle.by_numbers.specs.Lent.{Lent, stateAt, lentOf}
 use Rattle.numbers.proofs.Held.{window-held}
 use Rattle.record.specs.declared.Read.{Read}
 use Rattle.record.specs.declared.Read.the-variants.{Got, Bad, End}

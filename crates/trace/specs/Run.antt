@@ -18,7 +18,7 @@ use Rattle.little_endian.specs.Numbers.{bytesOf, putAt}
 use Rattle.step.specs.declared.Event.{Event}
 use Rattle.step.specs.declared.Oep060Timing.{Oep060Timing}
 use Rattle.step.specs.Events.{costs, finally, total}
-use Rattle.step.specs.Crate.{crateBoard}
+use Rattle.board.specs.Crate.{crateBoard}
 use Rattle.step.specs.Step.{stateOf, timingOf, seenOf}
 use Rattle.refusals.specs.declared.Verdict.the-variants.{Accepted}
 use Rattle.outcome.specs.declared.Ran.{Ran}

@@ -2,7 +2,7 @@
 ghost use mathlib.Core.Path.{_≡_};
 ghost use Prim.Native.Nat.{_≤_};
 ghost use lib.ListN.{length};
-ghost use Rattle.in_place.specs.Lent.{lent, stateAt};
+ghost use Rattle.by_numbers.specs.Lent.{lent, stateAt};
 ghost use Rattle.records.specs.Trace.{readTrace};
 ghost use Rattle.records.specs.Judged.{Fits};
 ghost use Rattle.trace.specs.Run.{ranAt, outcome, outcomeOf, runTraceOf};
@@ -38,7 +38,7 @@ fn run_records(
         at = turn.next;
         total += turn.cost as u64;
         if 0 < turn.count {
-            little_endian::put_u32(costs, count * 4, turn.cost);
+            storing::put_u32(costs, count * 4, turn.cost);
             count += 1;
         }
     }
@@ -56,7 +56,7 @@ fn run_all(trace: &[u8], costs: &mut [u8], timing: Oep060Timing) -> Ran
     let mut window = [0; 5];
     numbers::put_window(&mut window, timing.window);
     let sums = run_records(trace, costs, &mut tags, &mut state, &mut window);
-    let last = in_place::timing_at(tags, state, window);
+    let last = by_numbers::timing_at(tags, state, window);
     Ran {
         verdict: Verdict::Accepted,
         count: sums.count,

@@ -1,6 +1,4 @@
--- Document 01, part 6: the batch, record by record.
+-- Document 01, part 6: one record of a batch.
 --
---   Judge   ==  the verdict on a batch
---   Turns   ==  what the code carries from one record to the next; the promise of the batch reads none of it
-pub mod Judge
+--   Turns   ==  how far a batch is, and one record further; the promise of the batch reads none of it
 pub mod Turns

@@ -14,18 +14,19 @@ use Rattle.step.specs.declared.Retirement.{Retirement}
 use Rattle.step.specs.declared.Oep060Timing.{Oep060Timing}
 use Rattle.step.specs.declared.Stepped.{Stepped}
 use Rattle.step.specs.Events.{total}
-use Rattle.step.specs.Step.{timingAt, seenOf, steppedOf}
+use Rattle.step.specs.Step.{timingAt, seenOf}
+use Rattle.board.specs.Crate.{steppedOf}
 use Rattle.refusals.specs.declared.Refusal.{Refusal}
 use Rattle.refusals.specs.declared.Refusal.the-variants.{Oversized, Room}
 use Rattle.refusals.specs.declared.Verdict.{Verdict}
 use Rattle.refusals.specs.declared.Verdict.the-variants.{Accepted, Refused}
-use Rattle.turns.specs.Judge.{judgeOf}
+use Rattle.ends.specs.Judge.{judgeOf}
 use Rattle.batch.specs.Batch.{outcomeBy, acceptedOf, batchOf}
 use Rattle.turns.specs.Turns.{Reached}
 use Rattle.batch.proofs.Run.{endOf, paidOf, end-none, paid-none, end-first, paid-first}
 use Rattle.numbers.proofs.Held.{window-held}
 use Rattle.host_numbers.specs.declared.HostRan.{HostRan}
-use Rattle.in_place.specs.Lent.{Lent, lent, stateAt, lentOf}
+use Rattle.by_numbers.specs.Lent.{Lent, lent, stateAt, lentOf}
 use Rattle.numbers.specs.Windows.{windowAt}
 use Rattle.numbers.specs.Windows.{numbersOf}
 use Rattle.host_numbers.specs.Ran.{HostOutcome, hostRanOf, hostOutcome}

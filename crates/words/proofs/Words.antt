@@ -7,8 +7,8 @@ use native.Mathlib.Omega.{arith}
 use lib.ListN.{length, getD, drop}
 use lib.IntN.{ℤ}
 use lib.Seq.{drop-cons}
-use Rattle.little_endian.specs.Numbers.{signedOf}
-use Rattle.in_place.specs.Retire.{retirementOf}
+use Rattle.signed.specs.Signed.{signedOf}
+use Rattle.payload.specs.Passed.{retirementOf}
 use Rattle.words.specs.Words.{recordOf, recordAt, retirementsOf}
 
 pub record-is : (ws : List ℕ) (i : ℕ) {head ppc pc raw : ℕ} {z : ℤ} → head ≡ getD ws (4 * i) 0 → ppc ≡ getD ws (4 * i + 1) 0 → pc ≡ getD ws (4 * i + 2) 0

@@ -8,11 +8,11 @@
 use Prim.Native.Nat.{ℕ, _+_, _*_, _/_, _%_}
 use mathlib.Core.List.{List, [], _∷_}
 use lib.ListN.{getD}
-use Rattle.little_endian.specs.Numbers.{signedOf}
+use Rattle.signed.specs.Signed.{signedOf}
 use Rattle.step.specs.declared.Retirement.{Retirement}
 use Rattle.batch.specs.Batch as batches
-use Rattle.in_place.specs.Lent.{Lent, stateAt}
-use Rattle.in_place.specs.Retire.{retirementOf}
+use Rattle.by_numbers.specs.Lent.{Lent, stateAt}
+use Rattle.payload.specs.Passed.{retirementOf}
 use Rattle.host_numbers.specs.Ran.{HostOutcome, hostOutcomeOf}
 
 abbrev pub recordOf : ℕ → ℕ → ℕ → ℕ → Retirement

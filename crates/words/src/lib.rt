@@ -4,7 +4,7 @@ ghost use Prim.Native.Nat.{_+_, _*_, _/_, _<_, _≤_};
 ghost use lib.ListN.{length, getD};
 ghost use Rattle.refusals.specs.declared.Verdict.the-variants.{Accepted};
 ghost use Rattle.batch.specs.Batch.{acceptedOf};
-ghost use Rattle.in_place.specs.Lent.{lent, stateAt};
+ghost use Rattle.by_numbers.specs.Lent.{lent, stateAt};
 ghost use Rattle.in_place.specs.Retire.{paid, retireAtOf};
 ghost use Rattle.host_numbers.specs.Ran.{hostRanOf, hostOutcome};
 ghost use Rattle.words.specs.Words.{recordAt, retirementsOf, batchOutcomeOf, runBatchAtOf};
@@ -45,7 +45,7 @@ fn retire_record(
         (head / 65536) as u16,
         ppc,
         pc,
-        little_endian::i32_of(raw),
+        signed::i32_of(raw),
     )
 }
 
@@ -86,7 +86,7 @@ pub fn run_batch_at(
         ≡ runBatchAtOf (now (records .entry)) (now (costs .entry)) (lent (now (tags .entry)) (now (state .entry)) (now (window .entry))) ⌝ }
 {
     let count = records.len() / 4;
-    if turns::MOST_RECORDS < count {
+    if ends::MOST_RECORDS < count {
         return refused_at(Refusal::Oversized, window);
     }
     if costs.len() < count {

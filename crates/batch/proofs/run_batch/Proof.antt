@@ -25,15 +25,15 @@ use denote.Exit.{yes}
 use Rattle.step.proofs.Oep060Timing as S
 use Rattle.step.proofs.Oep060Timing.Laws as S′
 use Rattle.step.proofs.Retirement as R
-use Rattle.turns.proofs.judge.Symbol as judge-def
-use Rattle.turns.proofs.judge.Symbol.{name as #judge}
-use Rattle.turns.proofs.judge.Met as judge-thm
-use Rattle.turns.proofs.begin.Symbol as begin-def
-use Rattle.turns.proofs.begin.Symbol.{name as #begin}
-use Rattle.turns.proofs.begin.Met as begin-thm
-use Rattle.turns.proofs.finish.Symbol as finish-def
-use Rattle.turns.proofs.finish.Symbol.{name as #finish}
-use Rattle.turns.proofs.finish.Met as finish-thm
+use Rattle.ends.proofs.judge.Symbol as judge-def
+use Rattle.ends.proofs.judge.Symbol.{name as #judge}
+use Rattle.ends.proofs.judge.Met as judge-thm
+use Rattle.ends.proofs.begin.Symbol as begin-def
+use Rattle.ends.proofs.begin.Symbol.{name as #begin}
+use Rattle.ends.proofs.begin.Met as begin-thm
+use Rattle.ends.proofs.finish.Symbol as finish-def
+use Rattle.ends.proofs.finish.Symbol.{name as #finish}
+use Rattle.ends.proofs.finish.Met as finish-thm
 use Rattle.turns.proofs.turn.Symbol as turn-def
 use Rattle.turns.proofs.turn.Symbol.{name as #turn}
 use Rattle.turns.proofs.turn.Met as turn-thm
@@ -99,7 +99,7 @@ run-batch-spec 𝓤 H 𝓜 𝓖 𝓡 =
     entered 𝓤 H (tripleOf 𝓤 H (𝓖 .A) f.signature (f.spec 𝓤 H (𝓖 .A) (𝓜 .mem) (𝓡 .run)))
     (tables 𝓤 H 𝓜 𝓡 code.env .C) (tables 𝓤 H 𝓜 𝓡 code.env .Λ) #key code.function (code.unfolded 𝓤 H 𝓜 𝓡)
     (f-meets 𝓤 H (𝓖 .A) (givenOf 𝓤 H 𝓜 𝓖) (𝓜 .mem) (𝓡 .run) (tablesOf 𝓤 H 𝓜 (tables 𝓤 H 𝓜 𝓡 code.env))
-    (cited 𝓤 H (Judge 𝓤 H (𝓖 .A) (𝓜 .mem) (𝓡 .run)) 𝓜 𝓡 code.env #judge judge-def.routine code.calls-turns·judge (judge-thm.met 𝓤 H 𝓜 𝓖 𝓡))
-    (cited 𝓤 H (Begin 𝓤 H (𝓖 .A) (𝓜 .mem) (𝓡 .run)) 𝓜 𝓡 code.env #begin begin-def.routine code.calls-turns·begin (begin-thm.met 𝓤 H 𝓜 𝓖 𝓡))
+    (cited 𝓤 H (Judge 𝓤 H (𝓖 .A) (𝓜 .mem) (𝓡 .run)) 𝓜 𝓡 code.env #judge judge-def.routine code.calls-ends·judge (judge-thm.met 𝓤 H 𝓜 𝓖 𝓡))
+    (cited 𝓤 H (Begin 𝓤 H (𝓖 .A) (𝓜 .mem) (𝓡 .run)) 𝓜 𝓡 code.env #begin begin-def.routine code.calls-ends·begin (begin-thm.met 𝓤 H 𝓜 𝓖 𝓡))
     (cited 𝓤 H (Turn 𝓤 H (𝓖 .A) (𝓜 .mem) (𝓡 .run)) 𝓜 𝓡 code.env #turn turn-def.routine code.calls-turns·turn (turn-thm.met 𝓤 H 𝓜 𝓖 𝓡))
-    (cited 𝓤 H (Finish 𝓤 H (𝓖 .A) (𝓜 .mem) (𝓡 .run)) 𝓜 𝓡 code.env #finish finish-def.routine code.calls-turns·finish (finish-thm.met 𝓤 H 𝓜 𝓖 𝓡)))
+    (cited 𝓤 H (Finish 𝓤 H (𝓖 .A) (𝓜 .mem) (𝓡 .run)) 𝓜 𝓡 code.env #finish finish-def.routine code.calls-ends·finish (finish-thm.met 𝓤 H 𝓜 𝓖 𝓡)))

@@ -13,7 +13,7 @@ use Rattle.pairing.specs.Retiring.{otherKind}
 use Rattle.branching.specs.Branch.{takenOf, branchCost}
 use Rattle.pairing.specs.Cost.{chargedBy}
 use Rattle.step.specs.Step.{steppedBy}
-use Rattle.in_place.specs.Lent.{lent, stateAt}
+use Rattle.by_numbers.specs.Lent.{lent, stateAt}
 use Rattle.in_place.specs.Retire.{paidOf}
 use Rattle.in_place.proofs.Paying.{paid-branch, paid-open, paid-shut}
 use Rattle.in_place.proofs.retire_at.Statement.{statement}

@@ -4,7 +4,7 @@ use mathlib.Core.Path.{ap, _∙_}
 use mir.Facts.{toZ-ofZ}
 use mir.Syntax.{w32}
 use Rattle.dispatch.specs.declared.Controls.{Controls}
-use Rattle.in_place.specs.Lent.{lent}
+use Rattle.by_numbers.specs.Lent.{lent}
 use Rattle.in_place.specs.Retire.{retireAtOf}
 use Rattle.flags.proofs.Held.{controls-held}
 use borrow.Author.Needs.{needs}

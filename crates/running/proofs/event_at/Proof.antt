@@ -5,7 +5,7 @@ use borrow.Author.Needs.{needs}
 use Rattle.branch_cache.specs.declared.BranchCache060.{BranchCache060}
 use Rattle.window.specs.Windows.{seen}
 use Rattle.numbers.specs.Windows.{windowAt, numbersOf}
-use Rattle.in_place.specs.Lent.{lent}
+use Rattle.by_numbers.specs.Lent.{lent}
 use Rattle.in_place.specs.Retire.{Paid}
 use Rattle.running.specs.Turns.{turned, turnFor}
 use Rattle.running.proofs.event_at.Statement.{statement}

@@ -2,7 +2,7 @@
 -- Assumes nothing.
 use mathlib.Core.Path.{sym, ap, _∙_}
 use borrow.Author.Needs.{needs}
-use Rattle.in_place.specs.Lent.{Lent, lent}
+use Rattle.by_numbers.specs.Lent.{Lent, lent}
 use Rattle.running.specs.Turns.{turnOf}
 use Rattle.running.proofs.run_record.Statement.{statement}
 use Rattle.running.proofs.run_record.Tie as tie

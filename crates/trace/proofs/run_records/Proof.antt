@@ -5,7 +5,7 @@ use mathlib.Core.Path.{_∙_}
 use native.Mathlib.Omega.{arith}
 use borrow.Author.Needs.{needs}
 use lib.ListN.{length}
-use Rattle.in_place.specs.Lent.{Lent, lent, stateAt}
+use Rattle.by_numbers.specs.Lent.{Lent, lent, stateAt}
 use Rattle.numbers.specs.Windows.{windowAt}
 use Rattle.record.proofs.Reading.{read-end}
 use Rattle.records.specs.Trace.{readTrace}

@@ -1,16 +1,19 @@
 -- `turn`: the step's contract gives the next state and the cost; the total cannot wrap, since each cost is below 2 ^ 32 and there are at most 1,048,576.
 -- Assumes nothing.
-use mathlib.Core.Path.{ap, _∙_}
+use mathlib.Core.Path.{_≡_, ap, _∙_}
 use Prim.Native.Nat.{_+_}
 use lib.ListN.{set}
 use Rattle.window.specs.declared.Window.{Window}
 use Rattle.step.specs.declared.Stepped.{Stepped}
-use Rattle.step.specs.Step.{timingAt, steppedOf}
+use Rattle.step.specs.Step.{timingAt}
+use Rattle.board.specs.Crate.{steppedOf}
 use Rattle.numbers.specs.Windows.{numbersOf}
-use Rattle.in_place.specs.Lent.{lent}
+use Rattle.by_numbers.specs.Lent.{lent}
 use Rattle.numbers.proofs.Held.{window-held}
 use Rattle.in_place.proofs.Held.{stepped-held}
+use Rattle.ends.specs.declared.Carried.{Carried}
 use borrow.Author.Needs.{needs}
+use Rattle.turns.specs.Turns.{reached, turnedOf}
 use Rattle.turns.proofs.turn.Statement.{statement}
 use Rattle.turns.proofs.turn.Tie as tie
 
@@ -41,18 +44,20 @@ same-length c = search needs
 returns : tie.Need-returns
 returns c =
     let p = c .before .before .before .before .before .before in
+    let d = c .before .before .retire-in-place in
     let a = p .before .before .before .before .args in
     let w = a .carried .window in
-    let t : Window → Stepped = λ (z : Window). steppedOf (timingAt (a .tags .now) (a .state .now) z) (a .r) in (
-      rw (c .before .window-at .ensures)
-          (ap (λ (x : Stepped). record {
-            timing = x .timing;
-            total = a .carried .total + x .cost .0;
-            places = set (a .costs .now) (a .i) (x .cost .0);
-          })
-          (stepped-held (lent (a .tags .now) (a .state .now) (numbersOf w)) (a .r) (rw (p .put-window .ensures) at (c .before .before .retire-in-place .ensures)) ∙ ap t (window-held w))),
-      search needs,
-    )
+    let t : Window → Stepped = λ (z : Window). steppedOf (timingAt (a .tags .now) (a .state .now) z) (a .r) in
+    let n : Carried = record { window = c .before .window-at .result; total = a .carried .total + d .result } in
+    let next : reached (d .last .0) (d .last .1 .0) n (set (a .costs .now) (a .i) (d .result)) ≡ turnedOf (reached (a .tags .now) (a .state .now) (a .carried) (a .costs .now)) (a .i) (a .r) =
+    rw (c .before .window-at .ensures)
+    (ap (λ (x : Stepped). record {
+      timing = x .timing;
+      total = a .carried .total + x .cost .0;
+      places = set (a .costs .now) (a .i) (x .cost .0);
+    })
+    (stepped-held (lent (a .tags .now) (a .state .now) (numbersOf w)) (a .r) (rw (p .put-window .ensures) at (d .ensures)) ∙ ap t (window-held w))) in
+    (next, search needs)
 
 pub turn-spec : {M : Type 1} → statement M
 turn-spec =

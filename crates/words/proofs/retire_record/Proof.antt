@@ -3,7 +3,7 @@
 use mathlib.Core.Path.{ap, _∙_}
 use mir.Facts.{toZ-ofZ}
 use mir.Syntax.{w32}
-use Rattle.in_place.specs.Lent.{lent}
+use Rattle.by_numbers.specs.Lent.{lent}
 use Rattle.in_place.specs.Retire.{retireAtOf}
 use Rattle.words.proofs.Words.{record-is}
 use borrow.Author.Needs.{needs}

@@ -1,7 +1,7 @@
 -- `run_batch_at`: refusal 1, then refusal 7, then the run.
 -- Assumes nothing.
 use Rattle.refusals.specs.declared.Refusal.the-variants.{Oversized, Room}
-use Rattle.in_place.specs.Lent.{lent}
+use Rattle.by_numbers.specs.Lent.{lent}
 use Rattle.words.proofs.Batch.{judge-oversized, judge-room, judge-accepted, batch-refused, batch-accepted}
 use borrow.Author.Needs.{needs}
 use Rattle.words.proofs.run_batch_at.Statement.{statement}

@@ -6,7 +6,7 @@ use native.Mathlib.Omega.{arith}
 use lib.ListN.{length, drop}
 use Rattle.step.specs.Step.{timingAt}
 use Rattle.numbers.specs.Windows.{windowAt, numbersOf}
-use Rattle.in_place.specs.Lent.{lent, stateAt}
+use Rattle.by_numbers.specs.Lent.{lent, stateAt}
 use Rattle.in_place.proofs.Held.{stepped-held, window-plain}
 use Rattle.words.specs.Words.{recordAt, retirementsOf}
 use Rattle.words.proofs.Batch.{restOf, rest-again, seen-plain, run-ends}

@@ -20,16 +20,16 @@ use denote.Builtin.{u32}
 use denote.Slice.{ShrSlice, MutSlice}
 use denote.Index.{looks-slice}
 use denote.Struct.Laws as LL
-use Rattle.turns.specs.Turns.{beginOf}
+use Rattle.ends.specs.Ends.{beginOf}
 use Rattle.step.proofs.Oep060Timing as S
 use Rattle.step.proofs.Oep060Timing.Laws as S′
 use Rattle.step.proofs.Retirement as R
 use Rattle.step.proofs.Retirement.Laws as R′
 use Rattle.outcome.proofs.Ran.Laws as D′
-use Rattle.turns.proofs.Carried as C
-use Rattle.turns.proofs.Carried.Laws as C′
-use Rattle.turns.proofs.Judged as Y
-use Rattle.turns.proofs.Judged.Laws as Y′
+use Rattle.ends.proofs.Carried as C
+use Rattle.ends.proofs.Carried.Laws as C′
+use Rattle.ends.proofs.Judged as Y
+use Rattle.ends.proofs.Judged.Laws as Y′
 use Rattle.batch.proofs.Loop.{cvals, at-start, fewer, fewer-wf}
 use Rattle.batch.proofs.Locals.{amach, gives-out}
 use Rattle.batch.proofs.run_batch.Code.Mir as code-mir

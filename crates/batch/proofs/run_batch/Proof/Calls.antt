@@ -25,14 +25,14 @@ use denote.Steps.{owned, nothing}
 use denote.Struct.Laws as LL
 use denote.Triple.Walked.{says}
 use Rattle.step.specs.declared.Retirement.{Retirement}
-use Rattle.turns.specs.declared.Carried.{Carried}
+use Rattle.ends.specs.declared.Carried.{Carried}
 use Rattle.step.proofs.Oep060Timing as S
 use Rattle.step.proofs.Retirement as R
 use Rattle.step.proofs.Retirement.Laws as R′
-use Rattle.turns.proofs.Carried as C
-use Rattle.turns.proofs.Carried.Laws as C′
-use Rattle.turns.proofs.Judged as Y
-use Rattle.turns.proofs.Judged.Laws as Y′
+use Rattle.ends.proofs.Carried as C
+use Rattle.ends.proofs.Carried.Laws as C′
+use Rattle.ends.proofs.Judged as Y
+use Rattle.ends.proofs.Judged.Laws as Y′
 use Rattle.batch.proofs.Run.{runs-within}
 use Rattle.batch.proofs.Loop.{cvals, within}
 use Rattle.batch.proofs.Locals.{Arr, avals}

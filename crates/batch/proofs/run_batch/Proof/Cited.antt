@@ -15,12 +15,12 @@ use denote.Triple.Clauses.{ensured, lasts}
 use denote.Triple.Spec.{tripleOf}
 use Rattle.step.specs.declared.Oep060Timing.{Oep060Timing}
 use Rattle.outcome.specs.declared.Ran.{Ran}
-use Rattle.turns.specs.declared.Carried.{Carried}
-use Rattle.turns.specs.declared.Judged.{Judged}
-use Rattle.turns.specs.Turns.{judgedOf, beginOf, finishOf}
-use Rattle.turns.proofs.judge as judge
-use Rattle.turns.proofs.begin as begin
-use Rattle.turns.proofs.finish as finish
+use Rattle.ends.specs.declared.Carried.{Carried}
+use Rattle.ends.specs.declared.Judged.{Judged}
+use Rattle.ends.specs.Ends.{judgedOf, beginOf, finishOf}
+use Rattle.ends.proofs.judge as judge
+use Rattle.ends.proofs.begin as begin
+use Rattle.ends.proofs.finish as finish
 use Rattle.turns.proofs.turn as turn
 
 -- the contracts that the proof cites, and of `ensured` the clause alone

@@ -21,8 +21,8 @@ use Rattle.step.proofs.Oep060Timing.Laws as S′
 use Rattle.step.proofs.Retirement as R
 use Rattle.step.proofs.Retirement.Laws as R′
 use Rattle.outcome.proofs.Ran.Laws as D′
-use Rattle.turns.proofs.Carried.Laws as C′
-use Rattle.turns.proofs.Judged.Laws as Y′
+use Rattle.ends.proofs.Carried.Laws as C′
+use Rattle.ends.proofs.Judged.Laws as Y′
 use Rattle.batch.proofs.Loop.{fewer}
 use Rattle.batch.proofs.Locals.{Arr, arr}
 use Rattle.batch.proofs.run_batch.Code.Mir as code-mir

@@ -27,11 +27,11 @@ use Rattle.outcome.specs.declared.Ran.{Ran}
 use Rattle.step.proofs.Retirement as R
 use Rattle.outcome.proofs.Ran as D
 use Rattle.outcome.proofs.Ran.Laws as D′
-use Rattle.turns.proofs.Carried as C
-use Rattle.turns.proofs.Carried.Laws as C′
-use Rattle.turns.proofs.Judged as Y
+use Rattle.ends.proofs.Carried as C
+use Rattle.ends.proofs.Carried.Laws as C′
+use Rattle.ends.proofs.Judged as Y
 use Rattle.batch.proofs.Locals.{arr-typed, takes-back}
-use Rattle.turns.proofs.finish as finish
+use Rattle.ends.proofs.finish as finish
 use Rattle.batch.proofs.run_batch.Code.Mir as code-mir
 use Rattle.batch.proofs.run_batch.Proof.Values.{vvals}
 use Rattle.batch.proofs.run_batch.Proof.Cited.{Finish, finish-of}

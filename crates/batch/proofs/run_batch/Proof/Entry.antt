@@ -27,15 +27,15 @@ use Rattle.step.specs.declared.Oep060Timing.{Oep060Timing}
 use Rattle.step.specs.declared.Retirement.{Retirement}
 use Rattle.step.specs.Step.{seenOf}
 use Rattle.outcome.specs.declared.Ran.{Ran}
-use Rattle.turns.specs.declared.Judged.{Judged}
-use Rattle.turns.specs.Turns.{judgedOf, finishOf}
+use Rattle.ends.specs.declared.Judged.{Judged}
+use Rattle.ends.specs.Ends.{judgedOf, finishOf}
 use Rattle.step.proofs.Oep060Timing as S
 use Rattle.step.proofs.Retirement as R
 use Rattle.batch.proofs.Run.{runs-within}
 use Rattle.batch.proofs.Loop.{Now, rec}
-use Rattle.turns.proofs.judge.Symbol.{name as #judge}
-use Rattle.turns.proofs.begin.Symbol.{name as #begin}
-use Rattle.turns.proofs.finish.Symbol.{name as #finish}
+use Rattle.ends.proofs.judge.Symbol.{name as #judge}
+use Rattle.ends.proofs.begin.Symbol.{name as #begin}
+use Rattle.ends.proofs.finish.Symbol.{name as #finish}
 use Rattle.turns.proofs.turn.Symbol.{name as #turn}
 use Rattle.batch.proofs.run_batch as f
 use Rattle.batch.proofs.run_batch.Proof.Values.{svals}

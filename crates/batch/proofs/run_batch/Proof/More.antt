@@ -33,11 +33,11 @@ use denote.Struct.Laws as LL
 use denote.Triple.Call.{calls-at}
 use denote.Triple.Clauses.{ensured, lasts}
 use Rattle.step.specs.declared.Retirement.{Retirement}
-use Rattle.turns.specs.declared.Carried.{Carried}
+use Rattle.ends.specs.declared.Carried.{Carried}
 use Rattle.step.proofs.Retirement as R
 use Rattle.step.proofs.Retirement.Laws as R′
-use Rattle.turns.proofs.Carried as C
-use Rattle.turns.proofs.Carried.Laws as C′
+use Rattle.ends.proofs.Carried as C
+use Rattle.ends.proofs.Carried.Laws as C′
 use Rattle.batch.proofs.Loop.{none, one-more, is-fewer, fewer, Turned, onward}
 use Rattle.batch.proofs.Again.{LentAgain, lends-again, comes-back}
 use Rattle.batch.proofs.Locals.{Arr}

@@ -11,18 +11,18 @@ use denote.Slice.{Room}
 use denote.Struct.Laws as LL
 use Rattle.step.specs.declared.Oep060Timing.{Oep060Timing}
 use Rattle.step.specs.declared.Retirement.{Retirement}
-use Rattle.turns.specs.declared.Carried.{Carried}
-use Rattle.turns.specs.declared.Judged.{Judged}
+use Rattle.ends.specs.declared.Carried.{Carried}
+use Rattle.ends.specs.declared.Judged.{Judged}
 use Rattle.branch_cache.proofs.BranchCache060 as B
 use Rattle.branch_cache.proofs.BranchCache060.Laws as B′
 use Rattle.step.proofs.Oep060Timing as S
 use Rattle.step.proofs.Oep060Timing.Laws as S′
 use Rattle.step.proofs.Retirement as R
 use Rattle.step.proofs.Retirement.Laws as R′
-use Rattle.turns.proofs.Carried as C
-use Rattle.turns.proofs.Carried.Laws as C′
-use Rattle.turns.proofs.Judged as Y
-use Rattle.turns.proofs.Judged.Laws as Y′
+use Rattle.ends.proofs.Carried as C
+use Rattle.ends.proofs.Carried.Laws as C′
+use Rattle.ends.proofs.Judged as Y
+use Rattle.ends.proofs.Judged.Laws as Y′
 use Rattle.batch.proofs.Loop.{cvals}
 use Rattle.batch.proofs.Locals.{Arr, avals}
 

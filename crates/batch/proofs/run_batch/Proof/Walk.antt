@@ -28,20 +28,20 @@ use denote.Struct.Laws as LL
 use denote.Triple.Call.{calls-at}
 use denote.Triple.Clauses.{ensured}
 use denote.Triple.Entry.{onEntry}
-use Rattle.turns.specs.declared.Carried.{Carried}
-use Rattle.turns.specs.declared.Judged.{Judged}
-use Rattle.turns.specs.Turns.{beginOf}
+use Rattle.ends.specs.declared.Carried.{Carried}
+use Rattle.ends.specs.declared.Judged.{Judged}
+use Rattle.ends.specs.Ends.{beginOf}
 use Rattle.step.proofs.Oep060Timing as S
 use Rattle.step.proofs.Oep060Timing.Laws as S′
 use Rattle.step.proofs.Retirement as R
-use Rattle.turns.proofs.Carried as C
-use Rattle.turns.proofs.Carried.Laws as C′
-use Rattle.turns.proofs.Judged as Y
-use Rattle.turns.proofs.Judged.Laws as Y′
+use Rattle.ends.proofs.Carried as C
+use Rattle.ends.proofs.Carried.Laws as C′
+use Rattle.ends.proofs.Judged as Y
+use Rattle.ends.proofs.Judged.Laws as Y′
 use Rattle.batch.proofs.Loop.{cvals}
 use Rattle.batch.proofs.Locals.{amach, arr-typed}
-use Rattle.turns.proofs.judge as judge
-use Rattle.turns.proofs.begin as begin
+use Rattle.ends.proofs.judge as judge
+use Rattle.ends.proofs.begin as begin
 use Rattle.batch.proofs.run_batch as f
 use Rattle.batch.proofs.run_batch.Code as code
 use Rattle.batch.proofs.run_batch.Proof.Values.{smach, cmach, vvals, vmach, held, told, is-same, shown, tags-shown, bytes-shown, run-fits}

@@ -1,0 +1,22 @@
+-- A break on the lent window of a state is the event `Broken`: the window is shut, and nothing else is touched. And what the methods of the
+-- state promise of a break and the two clears is what the events do. By computation.
+-- Assumes nothing.
+use mathlib.Core.Path.{_≡_, refl}
+use Rattle.window.specs.Windows.{shut}
+use Rattle.step.specs.declared.Oep060Timing.{Oep060Timing}
+use Rattle.step.specs.declared.Event.the-variants.{Broken, ClearedAll, ClearedUser}
+use Rattle.step.specs.Step.{brokenOf, clearedOf, userClearedOf}
+use Rattle.board.specs.Crate.{afterOf}
+
+module _ (t : Oep060Timing) where
+  pub break-is-the-event : afterOf t Broken ≡ record { cache = t .cache; window = shut }
+  break-is-the-event = refl
+
+  pub broken-is-the-event : afterOf t Broken ≡ brokenOf t
+  broken-is-the-event = refl
+
+  pub cleared-is-the-event : afterOf t ClearedAll ≡ clearedOf t
+  cleared-is-the-event = refl
+
+  pub user-cleared-is-the-event : afterOf t ClearedUser ≡ userClearedOf t
+  user-cleared-is-the-event = refl
