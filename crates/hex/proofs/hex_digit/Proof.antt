@@ -20,11 +20,11 @@ add-result-2 c = search needs
 
 returns : tie.Need-returns
 unfolding hexDigit
-returns c = simp (lt-ltb _ _ (c .if1 .taken))
+returns c = simp (lt-ltb _ 10 (c .if1 .taken))
 
 returns-2 : tie.Need-returns-2
 unfolding hexDigit
-returns-2 c = simp (le-ltb _ _ (c .if1 .left))
+returns-2 c = simp (le-ltb _ 10 (c .if1 .left))
 
 pub hex-digit-spec : {M : Type 1} → statement M
 hex-digit-spec =

@@ -8,25 +8,25 @@ use Rattle.image.proofs.judged.Tie as tie
 
 returns : tie.Need-returns
 unfolding judgedOf
-returns c = simp (ne-eqb _ _ (c .if1 .taken))
+returns c = simp (ne-eqb _ 1288 (c .if1 .taken))
 
 header-wrong-requires : tie.Need-header-wrong-requires
 header-wrong-requires c κs = search needs
 
 returns-2 : tie.Need-returns-2
 unfolding judgedOf
-returns-2 c = simp (eq-eqb _ _ (c .before .before .if1 .left), ← c .before .header-wrong .ensures, c .if2 .taken)
+returns-2 c = simp (eq-eqb _ 1288 (c .before .before .if1 .left), ← c .before .header-wrong .ensures, c .if2 .taken)
 
 window-wrong-requires : tie.Need-window-wrong-requires
 window-wrong-requires c κs = search needs
 
 returns-3 : tie.Need-returns-3
 unfolding judgedOf
-returns-3 c = simp (eq-eqb _ _ (c .before .before .before .before .if1 .left), ← c .before .before .before .header-wrong .ensures, c .before .before .if2 .left, ← c .before .window-wrong .ensures, c .if3 .taken)
+returns-3 c = simp (eq-eqb _ 1288 (c .before .before .before .before .if1 .left), ← c .before .before .before .header-wrong .ensures, c .before .before .if2 .left, ← c .before .window-wrong .ensures, c .if3 .taken)
 
 returns-4 : tie.Need-returns-4
 unfolding judgedOf
-returns-4 c = simp (eq-eqb _ _ (c .before .before .before .before .if1 .left), ← c .before .before .before .header-wrong .ensures, c .before .before .if2 .left, ← c .before .window-wrong .ensures, c .if3 .left)
+returns-4 c = simp (eq-eqb _ 1288 (c .before .before .before .before .if1 .left), ← c .before .before .before .header-wrong .ensures, c .before .before .if2 .left, ← c .before .window-wrong .ensures, c .if3 .left)
 
 pub judged-spec : {M : Type 1} → statement M
 judged-spec =

@@ -1,14 +1,21 @@
 -- `refused`: the state given, as it is read.
 -- Assumes nothing.
+use mathlib.Core.Path.{ap}
 use borrow.Author.Needs.{needs}
+use Rattle.step.specs.declared.Oep060Timing.{Oep060Timing}
+use Rattle.refusals.specs.declared.Verdict.the-variants.{Refused}
+use Rattle.outcome.specs.declared.Ran.{Ran}
 use Rattle.outcome.proofs.refused.Statement.{statement}
 use Rattle.outcome.proofs.refused.Tie as tie
 
 seen-requires : tie.Need-seen-requires
 seen-requires c κs = search needs
 
+abbrev refusedWith : tie.After-seen → Oep060Timing → Ran
+refusedWith c t = record { verdict = Refused (c .before .args .refusal); count = 0; total = 0; timing = t }
+
 returns : tie.Need-returns
-returns c = simp (c .seen .ensures)
+returns c = ap (refusedWith c) (c .seen .ensures)
 
 pub refused-spec : {M : Type 1} → statement M
 refused-spec = tie.close (tie.spec seen-requires returns)
