@@ -9,7 +9,8 @@ struct Ran {
     total: u64,
 }
 
-// As the exported functions take them: what is lent is where it starts and how many there are, and the answer goes where the first says.
+// As the exported functions take them: what is lent is where it starts and how many there are, and the answer goes
+// where the first says.
 unsafe extern "C" {
     fn timing_060_retire_at(tags: *mut u32, state: *mut u8, window: *mut u16, op: u16, flags: u16, ppc: u32, pc: u32, raw: i32) -> u32;
     fn timing_060_run_trace_at(ran: *mut Ran, trace: *const u8, bytes: u64, costs: *mut u8, room: u64, tags: *mut u32, state: *mut u8, window: *mut u16);

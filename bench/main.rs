@@ -1,6 +1,8 @@
-//! Rust and Rattle on the same traces in one run: the time a retirement of single steps, of a batch and of a trace run, and their ratio.
+//! Rust and Rattle on the same traces in one run: the time a retirement of single steps, of a batch and of a trace run,
+//! and their ratio.
 //!
-//! The Rust has neither batch nor trace run: for a batch it steps over the records, for a trace run it reads each record's bytes and steps.
+//! The Rust has neither batch nor trace run: for a batch it steps over the records, for a trace run it reads each
+//! record's bytes and steps.
 #![allow(dead_code, unexpected_cfgs)]
 
 mod core060 {

@@ -1,7 +1,9 @@
-# Lists one-token changes of Rattle sources and picks a sample of each crate, for tests/mutants. Called with seed and count set, with pass=1
-# before all sources (whose declarations say what may stand for what) and pass=2 before those to change.
-# A line each, split by tabs: CRATE QUOTA FILE LINE COLUMN FUNCTION OLD NEW TEXT (the line once changed). A crate's lines come in the seed's
-# order; the first QUOTA of them are its sample, and the others stand in for those that the compiler refuses.
+# Lists one-token changes of Rattle sources and picks a sample of each crate, for tests/mutants. Called with seed and
+# count set, with pass=1 before all sources (whose declarations say what may stand for what) and pass=2 before those to
+# change.
+# A line each, split by tabs: CRATE QUOTA FILE LINE COLUMN FUNCTION OLD NEW TEXT (the line once changed). A crate's
+# lines come in the seed's order; the first QUOTA of them are its sample, and the others stand in for those that the
+# compiler refuses.
 BEGIN {
     FS = "\n"
     split("== != <= < >= > + - * / % & | && || << >> += -=", word, " ")
@@ -60,7 +62,7 @@ function scan(s, i,    n, k, c, before, rest, w, alt) {
 
 FNR == 1 { crate = FILENAME; sub(/^crates\//, "", crate); sub(/\/.*/, "", crate); sig = contract = decl = 0; fn = "-" }
 { t = $0; sub(/^ +/, "", t) }
-t == "" || t ~ /^(\/\/|use |ghost use |#\[)/ { next }
+t == "" || t ~ /^(\/\/|(pub )?(use|mod|type) |ghost use |#\[)/ { next }
 
 # Fields of a type, cases with the same payload, constants of a type: each may stand for another of them.
 pass == 1 {
@@ -71,7 +73,7 @@ pass == 1 {
         name = t; sub(/^pub /, "", name); rest = name
         sub(/[^A-Za-z0-9_].*/, "", name); sub(/^[A-Za-z0-9_]+/, "", rest); sub(/ = .*/, ",", rest)
         if (name != "") belongs(kind ? "." name : type "::" name, crate " " type " " rest)
-    } else if (match(t, /^(pub )?const [A-Z0-9_]+: [a-z0-9]+ = /)) {
+    } else if (match(t, /^(pub )?const [A-Z0-9_]+: [A-Za-z0-9]+ = /)) {
         name = substr(t, 1, RLENGTH); sub(/^(pub )?const /, "", name); rest = name; sub(/:.*/, "", name); sub(/^.*: /, "", rest)
         belongs(name, crate " const " rest)
     }

@@ -93,6 +93,22 @@ static void step_by_step(timing_060 *t) {
     print("\n");
 }
 
+/* A refused trace or batch writes no number, not even those of a window that is read as another's. */
+static void refused_writes_nothing(uint8_t *bytes, uint32_t *places) {
+    static const uint16_t WINDOWS[2][5] = {{2, 0, 5, 0, 9}, {0, 1, 3, 0, 0xFFFF}};
+    static timing_060 t, given;
+    for (int w = 0; w < 2; w++) {
+        for (int i = 0; i < 5; i++) t.window[i] = given.window[i] = WINDOWS[w][i];
+        expect(is(timing_060_run_trace(&t, WORKED_BYTES, 79, bytes, 16), 5, 60, 0, 0), "the refusal of a trace on any window");
+        expect(same_state(&t, &given), "the numbers after a refused trace");
+        expect(is(timing_060_run_batch(&t, WORKED, INSTRUCTIONS, places, 0), 7, 0, 0, 0), "the refusal of a batch on any window");
+        expect(same_state(&t, &given), "the numbers after a refused batch");
+        expect(is(timing_060_run_batch(&t, WORKED, (uint64_t)1 << 62, places, 0), 1, 0, 0, 0), "the refusal of 2^62 records");
+        expect(is(timing_060_run_batch(&t, WORKED, ~(uint64_t)0, places, 0), 1, 0, 0, 0), "the refusal of 2^64 - 1 records");
+        expect(same_state(&t, &given), "the numbers after an oversized batch");
+    }
+}
+
 /* A trace and a batch cost the same, and leave the same state; the place beyond the last cost stays. */
 static void runs(const timing_060 *stepped) {
     static timing_060 t;
@@ -106,6 +122,7 @@ static void runs(const timing_060 *stepped) {
     expect(bytes[4 * INSTRUCTIONS] == 99, "the byte beyond the trace's costs");
     expect(is(timing_060_run_trace(&t, WORKED_BYTES, 79, bytes, sizeof bytes), 5, 60, 0, 0), "the refusal of a cut trace");
     expect(same_state(&t, stepped), "the state after a refused trace");
+    refused_writes_nothing(bytes, places);
 
     timing_060_fresh(&t);
     places[INSTRUCTIONS] = 99;

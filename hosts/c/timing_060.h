@@ -6,8 +6,8 @@
 #include <stdint.h>
 
 /* The state that a host keeps. All zeros is a fresh state. The window's five numbers are: open, the registers that the head writes,
- * and whether it defines the CCR, accesses memory, was cached. Anything but 0 is yes; of a shut window the other four are read, and
- * left, as zeros. */
+ * and whether it defines the CCR, accesses memory, was cached. Anything but 0 is yes; of a shut window the other four are read,
+ * and by whatever is accepted left, as zeros. */
 typedef struct {
     uint32_t tags[256];
     uint8_t state[256];
@@ -33,7 +33,7 @@ typedef struct {
 } timing_060_record;
 
 /* What a run gives. A refusal is 0 where there is none, else its number in the table of refusals, with its place; then count and
- * total are 0, the state is as it was (of a shut window the other numbers as zeros), and nothing is written. */
+ * total are 0, and nothing at all is written: costs, state and window keep every number. */
 typedef struct {
     uint64_t refusal;
     uint64_t place;
@@ -86,9 +86,9 @@ static inline timing_060_ran timing_060_run_trace(timing_060 *t, const uint8_t *
     return timing_060_run_trace_at(s, c, t->tags, t->state, t->window);
 }
 
-/* A batch of records into a place each. */
+/* A batch of records into a place each. A count whose words do not fit 64 bits is far over the limit, and refused as such. */
 static inline timing_060_ran timing_060_run_batch(timing_060 *t, const timing_060_record *records, uint64_t count, uint32_t *costs, uint64_t places) {
-    timing_060_words s = {(const uint32_t *)records, count * 4};
+    timing_060_words s = {(const uint32_t *)records, count >> 62 ? ~(uint64_t)0 : count * 4};
     timing_060_words_mut c = {costs, places};
     return timing_060_run_batch_at(s, c, t->tags, t->state, t->window);
 }

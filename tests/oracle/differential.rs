@@ -48,7 +48,7 @@ const TRACE: u8 = 1;
 const READ: u8 = 2;
 const WRITE: u8 = 3;
 const BATCH: u8 = 4;
-const FOUR: u8 = 5;
+const SLICE: u8 = 5;
 const BREAK: u8 = 6;
 
 // What a run gives: the verdict, the count and the total. The costs go into the lent bytes.
@@ -79,7 +79,7 @@ impl Case {
     }
 
     fn batch(&self) -> bool {
-        self.what == BATCH || self.what == FOUR
+        self.what == BATCH || self.what == SLICE
     }
 
     // What the port must answer. A dirty start is a shut window with its other fields set: to the Rust it is no head.
@@ -91,11 +91,11 @@ impl Case {
             state.pending_head = None;
         }
         match self.what {
-            TRACE | BATCH | FOUR => {
+            TRACE | BATCH | SLICE => {
                 let (what, events) = match self.what {
                     TRACE => ("trace", read_trace(&self.bytes, self.room)),
                     BATCH => ("batch", read_batch(&self.bytes, self.room)),
-                    _ => ("four", read_batch(&self.bytes, self.room)),
+                    _ => ("slice", read_batch(&self.bytes, self.room)),
                 };
                 let gave = ran(events, &mut lent, &mut state);
                 format!("{what} {gave} {} {}", hex(&lent), shown(&state))
@@ -304,7 +304,7 @@ fn batch_case(rng: &mut Random, events: &[Event]) -> Case {
         }
     }
     let needed = bytes.len() / 16;
-    let what = if needed == 4 && rng.one_in(2) { FOUR } else { BATCH };
+    let what = if needed <= 64 && rng.one_in(2) { SLICE } else { BATCH };
     if what == BATCH && rng.one_in(8) {
         bytes.extend((0..1 + rng.below(15)).map(|_| rng.next() as u8));
     }
@@ -379,7 +379,12 @@ fn batch_limits() -> Vec<Case> {
         let case = |what, room, bytes: &[u8]| Case { what, dirty, room, image: image.clone(), bytes: bytes.to_vec() };
         all.extend([case(BATCH, 0, &[]), case(BATCH, 5, &[]), case(BATCH, 0, &good[..15]), case(BATCH, 0, &good[..16]), case(BATCH, 1, &good[..31])]);
         for room in [0, 3, 4, 5] {
-            all.extend([case(BATCH, room, &good), case(FOUR, room, &good)]);
+            all.extend([case(BATCH, room, &good), case(SLICE, room, &good)]);
+        }
+        // a lent run of structs: none, one, and 64 of them, with room that is one short, just enough and more
+        let full: Vec<u8> = good.iter().copied().cycle().take(64 * 16).collect();
+        for (bytes, needed) in [(&good[..0], 0usize), (&good[..16], 1), (&full[..], 64)] {
+            all.extend([needed.saturating_sub(1), needed, needed + 3].map(|room| case(SLICE, room, bytes)));
         }
         all.push(case(BREAK, 0, &[]));
     }
@@ -497,10 +502,7 @@ fn shrunk(runner: &[String], case: &Case) -> Case {
             best = fresh;
         }
     }
-    if best.what == FOUR {
-        return best;
-    }
-    let unit = if best.what == BATCH { 16 } else { 4 };
+    let unit = if best.what == BATCH || best.what == SLICE { 16 } else { 4 };
     let mut step = (best.bytes.len() / 2).next_multiple_of(unit);
     while step >= unit {
         let mut at = 0;
@@ -528,7 +530,7 @@ pub fn run(runner: &[String], seed: u64, scale: u64) -> Result<(usize, usize), S
     let retired: usize = first.iter().filter(|c| c.what == TRACE).map(|c| read_trace(&c.bytes, c.room).map_or(0, |e| retirements(&e))).sum();
     println!("{} traces with {retired} retirements, {} images read, {} images written", count(&first, TRACE), count(&first, READ), count(&first, WRITE));
     let retired: usize = second.iter().filter(|c| c.batch()).map(|c| read_batch(&c.bytes, c.room).map_or(0, |e| e.len())).sum();
-    println!("{} batches and {} batches of four with {retired} retirements, {} breaks", count(&second, BATCH), count(&second, FOUR), count(&second, BREAK));
+    println!("{} batches and {} batches of structs with {retired} retirements, {} breaks", count(&second, BATCH), count(&second, SLICE), count(&second, BREAK));
     let (mut passed, mut failed) = (0, 0);
     for some in first.chunks(2000).chain(second.chunks(2000)) {
         let lines = answers(runner, some)?;

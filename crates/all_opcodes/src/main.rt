@@ -1,15 +1,17 @@
 // Prints OPCODE WORD USE DEF of all 65,536 opcodes, a line each, in upper-case hexadecimal.
+//
+// `line` asks `classifier` and `masks` and spells with `text`; `page` has the lines of 256 opcodes, written at once.
 ghost use Prim.Native.Nat.{_<_};
 use libc::STDOUT_FILENO;
 
 // One line, 20 bytes with its end.
 fn line(op: u16) -> [u8; 20] {
-    let info = opcodes::info_060(op);
-    let masks = opcodes::reg_masks_060(op);
-    let o = hex::hex4(op);
-    let w = hex::hex4(info.0);
-    let u = hex::hex4(masks.uses);
-    let d = hex::hex4(masks.defs);
+    let info = classifier::info_060(op);
+    let masks = masks::reg_masks_060(op);
+    let o = text::hex4(op);
+    let w = text::hex4(info.0);
+    let u = text::hex4(masks.uses);
+    let d = text::hex4(masks.defs);
     [
         o[0],
         o[1],

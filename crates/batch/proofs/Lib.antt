@@ -2,4 +2,3 @@ pub mod Refusals
 pub mod Run
 pub mod Loop
 pub mod Again
-pub mod Locals

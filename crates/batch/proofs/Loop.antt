@@ -1,6 +1,6 @@
 -- What the loop of the batch carries, with no machine in it: of the first m records, what is left to run, run from here, gives what the whole gives.
 -- Assumes nothing.
---     Now                what is carried: the place i, the cache's arrays, window and total, the costs, and what is known of them. It is the loop's variant too, by the number of records left
+--     Now                what is carried: the place i, the state and the total, the costs, and what is known of them. It is the loop's variant too, by the number of records left
 --     onward, all-run    one record further; and what is known once none is left
 use mathlib.Core.Path.{_≡_, refl, sym, _∙_, ap, subst}
 use Prim.Native.Nat.{ℕ, suc, _+_, _*_, _-_, _<_, _≤_, zero-le}
@@ -16,17 +16,17 @@ use lib.IntN.{pos}
 use denote.Laws.{Is}
 use denote.Struct.Laws as LL
 use mir.Val.{Val}
-use Rattle.step.specs.declared.Retirement.{Retirement}
-use Rattle.step.specs.declared.Oep060Timing.{Oep060Timing}
-use Rattle.step.specs.Events.{total as sum}
-use Rattle.step.specs.Step.{timingAt, seenOf}
-use Rattle.board.specs.Crate.{steppedOf}
-use Rattle.ends.specs.declared.Carried.{Carried}
-use Rattle.ends.specs.Ends.{beginOf}
-use Rattle.turns.specs.Turns.{Reached, reached, turnedOf}
+use Rattle.state.specs.declared.Retirement.{Retirement}
+use Rattle.state.specs.declared.Oep060Timing.{Oep060Timing}
+use Rattle.state.specs.declared.Stepped.{Stepped}
+use Rattle.state.specs.Events.{total as sum}
+use Rattle.state.specs.Timing.{seenOf}
+use Rattle.step.specs.CrateBoard.{steppedOf}
+use Rattle.batch.specs.declared.Carried.{Carried}
+use Rattle.batch.specs.Turning.{beginOf, Reached, reached, payOf}
 use Rattle.batch.proofs.Run.{endOf, paidOf, end-none, paid-none, end-first, paid-first}
-use Rattle.ends.proofs.Carried as C
-use Rattle.ends.proofs.Carried.Laws as C′
+use Rattle.batch.proofs.Carried as C
+use Rattle.batch.proofs.Carried.Laws as C′
 
 -- a record that stands for what lies past the end of a list
 abbrev pub none : Retirement
@@ -37,15 +37,13 @@ cvals = LL.vals C.the-type C′.the-laws
 
 pub record Now (m : ℕ) (rs : List Retirement) (s : Oep060Timing) (ps : List ℕ) : Type 0 where
   pub i : ℕ
-  pub ts : List ℕ
-  pub bs : List ℕ
   pub c : Carried
   pub cs : List ℕ
   pub bound : i ≤ m
   pub len : length cs ≡ length ps
-  pub after : endOf (timingAt ts bs (c .window)) (drop i (take m rs)) ≡ endOf s (take m rs)
-  pub cost : take i cs ++ paidOf (timingAt ts bs (c .window)) (drop i (take m rs)) ≡ paidOf s (take m rs)
-  pub total : c .total + sum (paidOf (timingAt ts bs (c .window)) (drop i (take m rs))) ≡ sum (paidOf s (take m rs))
+  pub after : endOf (c .timing) (drop i (take m rs)) ≡ endOf s (take m rs)
+  pub cost : take i cs ++ paidOf (c .timing) (drop i (take m rs)) ≡ paidOf s (take m rs)
+  pub total : c .total + sum (paidOf (c .timing) (drop i (take m rs))) ≡ sum (paidOf s (take m rs))
   pub past : drop m cs ≡ drop m ps
   pub small : c .total ≤ i * 4294967295
   pub is : Is C.the-row c (cvals c)
@@ -70,7 +68,7 @@ is-fewer n i l = omega (arith, l)
 
 -- before the first record
 abbrev pub at-start : (m : ℕ) (rs : List Retirement) (t : Oep060Timing) (ps : List ℕ) → Is C.the-row (beginOf t) (cvals (beginOf t)) → Now m rs (seenOf t) ps
-at-start m rs t ps is = record { i = 0; ts = t .cache .tags; bs = t .cache .state; c = beginOf t; cs = ps; bound = zero-le; len = refl; after = refl; cost = refl; total = from-none _; past = refl; small = zero-le; is = is }
+at-start m rs t ps is = record { i = 0; c = beginOf t; cs = ps; bound = zero-le; len = refl; after = refl; cost = refl; total = from-none _; past = refl; small = zero-le; is = is }
 
 module _ (m : ℕ) (rs : List Retirement) (s : Oep060Timing) (ps : List ℕ) where
   abbrev left : Now m rs s ps → ℕ
@@ -84,14 +82,17 @@ module _ (m : ℕ) (rs : List Retirement) (s : Oep060Timing) (ps : List ℕ) whe
 
   -- the state so far
   abbrev pub so-far : Now m rs s ps → Oep060Timing
-  so-far t = timingAt (t .ts) (t .bs) (t .c .window)
+  so-far t = t .c .timing
 
-  -- the record to run, and what `turn` ensures of it
+  -- the record to run, its step, and what `pay` ensures of that
   abbrev pub rec : Now m rs s ps → Retirement
   rec t = getD rs (t .i) none
 
-  abbrev pub Turned : Now m rs s ps → Carried → List ℕ → List ℕ → List ℕ → Type 0
-  Turned t c ts bs zs = (reached ts bs c zs ≡ turnedOf (reached (t .ts) (t .bs) (t .c) (t .cs)) (t .i) (rec t)) × (c .total ≤ (t .i + 1) * 4294967295)
+  abbrev pub step-at : Now m rs s ps → Stepped
+  step-at t = steppedOf (so-far t) (rec t)
+
+  abbrev pub Paid : Now m rs s ps → Stepped → Carried → List ℕ → Type 0
+  Paid t x c zs = (reached c zs ≡ payOf (t .cs) (t .i) (t .c .total) x) × (c .total ≤ (t .i + 1) * 4294967295)
 
   module _ (here : m ≤ length rs) (fits : m ≤ length ps) where
     -- a record is there, and so is its cost's place
@@ -103,33 +104,32 @@ module _ (m : ℕ) (rs : List Retirement) (s : Oep060Timing) (ps : List ℕ) whe
     begins-with i l = drop-cons (take m rs) i none (subst (λ (k : ℕ). i < k) (sym (length-take-le m rs here)) l) ∙ ap (λ (r : Retirement). r ∷ drop (suc i) (take m rs)) (getD-take m rs i none l)
 
     -- a record is run
-    abbrev pub onward : (t : Now m rs s ps) → t .i < m → (c : Carried) (ts bs zs : List ℕ) → Turned t c ts bs zs → length zs ≡ length (t .cs) → Is C.the-row c (cvals c) → Now m rs s ps
-    onward t l c ts bs zs e k is =
-        let x = rec t in
-        let paid = steppedOf (so-far t) x .cost .0 in
+    abbrev pub onward : (t : Now m rs s ps) → t .i < m → (x : Stepped) → x ≡ step-at t → (c : Carried) (zs : List ℕ) → Paid t x c zs → length zs ≡ length (t .cs) → Is C.the-row c (cvals c) → Now m rs s ps
+    onward t l x e c zs f k is =
+        let r = rec t in
+        let paid = step-at t .cost .0 in
         let rest = drop (suc (t .i)) (take m rs) in
-        let later = paidOf (steppedOf (so-far t) x .timing) rest in
-        let state = ap (λ (p : Reached). p .timing) (e .0) in
-        let places = ap (λ (p : Reached). p .places) (e .0) in
+        let later = paidOf (step-at t .timing) rest in
+        let far = f .0 ∙ ap (λ (y : Stepped). payOf (t .cs) (t .i) (t .c .total) y) e in
+        let state = ap (λ (p : Reached). p .timing) far in
+        let places = ap (λ (p : Reached). p .places) far in
         let back = sym (begins-with (t .i) l) in
         record {
           i = suc (t .i);
-          ts = ts;
-          bs = bs;
           c = c;
           cs = zs;
           bound = l;
           len = k ∙ t .len;
-          after = ap (λ (u : Oep060Timing). endOf u rest) state ∙ sym (end-first (so-far t) x rest) ∙ ap (λ (rs : List Retirement). endOf (so-far t) rs) back ∙ t .after;
+          after = ap (λ (u : Oep060Timing). endOf u rest) state ∙ sym (end-first (so-far t) r rest) ∙ ap (λ (rs : List Retirement). endOf (so-far t) rs) back ∙ t .after;
           cost = ap (λ (u : Oep060Timing). take (suc (t .i)) zs ++ paidOf u rest) state ∙ ap (λ (cs : List ℕ). take (suc (t .i)) cs ++ later) places
               ∙ ap (λ (cs : List ℕ). cs ++ later) (take-suc-set (t .cs) (t .i) paid (within t l)) ∙ append-snoc (take (t .i) (t .cs)) paid later
-              ∙ ap (λ (cs : List ℕ). take (t .i) (t .cs) ++ cs) (sym (paid-first (so-far t) x rest))
+              ∙ ap (λ (cs : List ℕ). take (t .i) (t .cs) ++ cs) (sym (paid-first (so-far t) r rest))
               ∙ ap (λ (rs : List Retirement). take (t .i) (t .cs) ++ paidOf (so-far t) rs) back ∙ t .cost;
-          total = ap (λ (u : Oep060Timing). c .total + sum (paidOf u rest)) state ∙ ap (λ (n : ℕ). n + sum later) (ap (λ (p : Reached). p .total) (e .0)) ∙ regroup (t .c .total) paid (sum later)
-              ∙ ap (λ (cs : List ℕ). t .c .total + sum cs) (sym (paid-first (so-far t) x rest))
+          total = ap (λ (u : Oep060Timing). c .total + sum (paidOf u rest)) state ∙ ap (λ (n : ℕ). n + sum later) (ap (λ (p : Reached). p .total) far) ∙ regroup (t .c .total) paid (sum later)
+              ∙ ap (λ (cs : List ℕ). t .c .total + sum cs) (sym (paid-first (so-far t) r rest))
               ∙ ap (λ (rs : List Retirement). t .c .total + sum (paidOf (so-far t) rs)) back ∙ t .total;
           past = ap (λ (cs : List ℕ). drop m cs) places ∙ drop-set-lt m (t .cs) (t .i) paid l ∙ t .past;
-          small = subst (λ (j : ℕ). c .total ≤ j * 4294967295) (one-more (t .i)) (e .1);
+          small = subst (λ (j : ℕ). c .total ≤ j * 4294967295) (one-more (t .i)) (f .1);
           is = is;
         }
 

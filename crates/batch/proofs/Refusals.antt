@@ -1,4 +1,4 @@
--- "Each number is given then and only then": refusal 1 for over 1,048,576 records, else refusal 7 for under one place a record, else none. By the two tests of `judgeOf`.
+-- "Each number is given then and only then": refusal 1 for over 1,048,576 records, else refusal 7 for under one place a record, else none. By the two tests of `batchVerdictOf`.
 -- Assumes nothing.
 use mathlib.Core.Path.{_≡_, refl, ap, _∙_}
 use Prim.Native.Nat.{ℕ}
@@ -6,25 +6,25 @@ use mathlib.Core.Bool.{Bool, true, false, not, cond, _&&_}
 use mathlib.Core.List.{List}
 use lib.Dec.{ltb}
 use lib.ListN.{length}
-use Rattle.step.specs.declared.Retirement.{Retirement}
-use Rattle.step.specs.declared.Oep060Timing.{Oep060Timing}
+use Rattle.state.specs.declared.Retirement.{Retirement}
+use Rattle.state.specs.declared.Oep060Timing.{Oep060Timing}
 use Rattle.refusals.specs.declared.Refusal.the-variants.{Oversized, Room}
 use Rattle.refusals.specs.declared.Verdict.{Verdict}
 use Rattle.refusals.specs.declared.Verdict.the-variants.{Accepted, Refused}
-use Rattle.ends.specs.Judge.{judgeOf}
-use Rattle.batch.specs.Batch.{outcomeBy, batchOf}
-use Rattle.batch.specs.Given.{isAccepted, gives}
+use Rattle.batch.specs.Judge.{batchVerdictOf}
+use Rattle.batch.specs.Batch.{batchOutcomeBy, batchOf}
+use Rattle.refusals.specs.Given.{isAccepted, gives}
 
 module _ (rs : List Retirement) (ps : List ℕ) (t : Oep060Timing) where
-  verdict-is : (v : Verdict) → outcomeBy v rs ps t .ran .verdict ≡ v
+  verdict-is : (v : Verdict) → batchOutcomeBy v rs ps t .ran .verdict ≡ v
   verdict-is Accepted = refl
   verdict-is (Refused refusal) = refl
 
   -- what holds of each of the three verdicts, where the two tests come out so, holds of the batch's
   by-tests : (f : Verdict → Bool) (g : Bool → Bool → Bool) → ((short : Bool) → f (Refused Oversized) ≡ g true short) → f (Refused (Room 0)) ≡ g false true → f Accepted ≡ g false false
       → f (batchOf rs ps t .ran .verdict) ≡ g (ltb 1048576 (length rs)) (ltb (length ps) (length rs))
-  unfolding judgeOf batchOf
-  by-tests f g over short taken = ap f (verdict-is (judgeOf (length rs) (length ps))) ∙ go (ltb 1048576 (length rs)) (ltb (length ps) (length rs))
+  unfolding batchVerdictOf batchOf
+  by-tests f g over short taken = ap f (verdict-is (batchVerdictOf (length rs) (length ps))) ∙ go (ltb 1048576 (length rs)) (ltb (length ps) (length rs))
     where
       go : (o u : Bool) → f (cond o (Refused Oversized) (cond u (Refused (Room 0)) Accepted)) ≡ g o u
       go true u = over u

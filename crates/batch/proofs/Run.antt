@@ -8,17 +8,17 @@ use mathlib.Core.List.{[], _∷_, _++_, List}
 use lib.ListN.{length, take, drop}
 use lib.Seq.{take-length}
 use lib.Dec.{T, ltb, nltb→le}
-use Rattle.step.specs.declared.Retirement.{Retirement}
-use Rattle.step.specs.declared.Oep060Timing.{Oep060Timing}
-use Rattle.step.specs.Events.{retirements, finally, costs, total}
-use Rattle.step.specs.Step.{stateOf, timingOf, seenOf, steppedBy}
-use Rattle.board.specs.Crate.{crateBoard, steppedOf}
+use Rattle.state.specs.declared.Retirement.{Retirement}
+use Rattle.state.specs.declared.Oep060Timing.{Oep060Timing}
+use Rattle.state.specs.Events.{retirements, finally, costs, total}
+use Rattle.state.specs.Timing.{stateOf, timingOf, seenOf, steppedBy}
+use Rattle.step.specs.CrateBoard.{crateBoard, steppedOf}
 use Rattle.refusals.specs.declared.Verdict.{Verdict}
 use Rattle.refusals.specs.declared.Verdict.the-variants.{Accepted, Refused}
 use Rattle.refusals.specs.declared.Refusal.the-variants.{Oversized, Room}
-use Rattle.ends.specs.Judge.{judgeOf}
-use Rattle.batch.specs.Batch.{outcome, eventsOf, outcomeBy}
-use Rattle.ends.specs.Ends.{runsBy}
+use Rattle.batch.specs.Judge.{batchVerdictOf}
+use Rattle.batch.specs.Batch.{batchOutcome, eventsOf, batchOutcomeBy}
+use Rattle.batch.specs.Turning.{runsBy}
 
 -- the state after the records, and the cost of each
 abbrev pub endOf : Oep060Timing → List Retirement → Oep060Timing
@@ -49,13 +49,13 @@ runs-by n k true q e f = (zero-le, zero-le, zero-le)
 runs-by n k false true e f = (zero-le, zero-le, zero-le)
 runs-by n k false false e f = (le-refl n, nltb→le k n (subst (λ (b : Bool). T (not b)) (sym f) tt), nltb→le 1048576 n (subst (λ (b : Bool). T (not b)) (sym e) tt))
 
-pub runs-within : (n k : ℕ) → let m = runsBy (judgeOf n k) n in (m ≤ n) × (m ≤ k) × (m ≤ 1048576)
-unfolding judgeOf
+pub runs-within : (n k : ℕ) → let m = runsBy (batchVerdictOf n k) n in (m ≤ n) × (m ≤ k) × (m ≤ 1048576)
+unfolding batchVerdictOf
 runs-within n k = runs-by n k (ltb 1048576 n) (ltb k n) refl refl
 
 -- what the records that are run come to is what the definition says, refused or not
 pub ends-by : (v : Verdict) (rs : List Retirement) (ps : List ℕ) (t : Oep060Timing) → let go = take (runsBy v (length rs)) rs in
-    outcome (record { verdict = v; count = runsBy v (length rs); total = total (paidOf (seenOf t) go); timing = endOf (seenOf t) go }) (paidOf (seenOf t) go ++ drop (runsBy v (length rs)) ps) ≡ outcomeBy v rs ps t
+    batchOutcome (record { verdict = v; count = runsBy v (length rs); total = total (paidOf (seenOf t) go); timing = endOf (seenOf t) go }) (paidOf (seenOf t) go ++ drop (runsBy v (length rs)) ps) ≡ batchOutcomeBy v rs ps t
 unfolding finally retirements
-ends-by Accepted rs ps t = ap (λ (go : List Retirement). outcome (record { verdict = Accepted; count = length rs; total = total (paidOf (seenOf t) go); timing = endOf (seenOf t) go }) (paidOf (seenOf t) go ++ drop (length rs) ps)) (take-length rs)
+ends-by Accepted rs ps t = ap (λ (go : List Retirement). batchOutcome (record { verdict = Accepted; count = length rs; total = total (paidOf (seenOf t) go); timing = endOf (seenOf t) go }) (paidOf (seenOf t) go ++ drop (length rs) ps)) (take-length rs)
 ends-by (Refused refusal) rs ps t = refl

@@ -1,35 +1,133 @@
-// The batch of document 01: a lent run of retirement records, its costs into lent 32-bit places.
+// Part 6 of document 01: the batch, a lent run of retirement records, its costs into lent 32-bit places.
+//
+// `run_batch` judges first, since a refused batch writes no place; then each record is copied out, handed to the step
+// by value (`step`), and paid. `host` judges by `batch_verdict` too, and runs a batch of words in place.
 ghost use mathlib.Core.Path.{_≡_};
-ghost use Rattle.batch.specs.Batch.{outcome, batchOf};
-use ends::begin;
-use ends::finish;
-use ends::judge;
-use outcome::Ran;
-use step::Oep060Timing;
-use step::Retirement;
-use turns::turn;
+ghost use Prim.Native.Nat.{_+_, _*_, _<_, _≤_, min};
+ghost use lib.ListN.{length, take};
+ghost use Rattle.batch.specs.Judge.{batchVerdictOf};
+ghost use Rattle.batch.specs.Batch.{batchOutcome, batchOf};
+ghost use Rattle.batch.specs.Turning.{judgedBatchOf, beginOf, reached, payOf, finishOf};
+use refusals::Ran;
+use refusals::Refusal;
+use refusals::Verdict;
+use state::Oep060Timing;
+use state::Retirement;
+use state::Stepped;
+use step::cycles_060;
+
+// More records are refused.
+const MOST_RECORDS: usize = 1048576;
+
+// The verdict on a batch, and how many of its records are run: all, or none if it is refused.
+struct Judged {
+    run: usize,
+    verdict: Verdict,
+}
+
+// What the loop carries from record to record.
+struct Carried {
+    timing: Oep060Timing,
+    total: u64,
+}
+
+// Refusal 1 before refusal 7.
+pub fn batch_verdict(records: usize, places: usize) -> Verdict
+    ensures { λ r. ⌜ r ≡ batchVerdictOf records places ⌝ }
+{
+    if MOST_RECORDS < records {
+        return Verdict::Refused(Refusal::Oversized);
+    }
+    if places < records {
+        return Verdict::Refused(Refusal::Room(0));
+    }
+    Verdict::Accepted
+}
+
+fn judge_batch(records: usize, places: usize) -> Judged
+    ensures { λ x. ⌜ x ≡ judgedBatchOf records places ⌝ }
+{
+    let verdict = batch_verdict(records, places);
+    if let Verdict::Refused(_) = verdict {
+        return Judged { run: 0, verdict };
+    }
+    Judged {
+        run: records,
+        verdict,
+    }
+}
+
+// Before the first record: the state as it is read.
+fn begin(timing: Oep060Timing) -> Carried
+    ensures { λ x. ⌜ x ≡ beginOf timing ⌝ }
+{
+    let timing = timing.seen();
+    Carried { timing, total: 0 }
+}
+
+// One record's cost is stored. Up to 1,048,576 costs below 2^32 cannot wrap the total.
+fn pay(costs: &mut [u32], i: usize, carried: Carried, stepped: Stepped) -> Carried
+    // There is a place for it and few came before: only `run_batch` calls this, after `judge_batch`.
+    requires { ⌜ (i < length (now costs)) × (i < 1048576) × (carried .total ≤ i * 4294967295) ⌝ }
+    ensures { λ x. ⌜ (reached x (now (costs .exit)) ≡ payOf (now (costs .entry)) i (carried .total) stepped)
+        × (x .total ≤ (i + 1) * 4294967295) ⌝ }
+{
+    let timing = stepped.timing;
+    let cost = stepped.cost.0;
+    let total = carried.total + (cost as u64);
+    costs[i] = cost;
+    Carried { timing, total }
+}
+
+// After the last record.
+fn finish(carried: Carried, judged: Judged) -> Ran
+    ensures { λ x. ⌜ x ≡ finishOf carried judged ⌝ }
+{
+    let timing = carried.timing;
+    let verdict = judged.verdict;
+    Ran {
+        verdict,
+        count: judged.run,
+        total: carried.total,
+        timing,
+    }
+}
 
 // The batch: each record is copied out of the lent run and handed to the step. A walk by hand.
 pub fn run_batch(rs: &[Retirement], costs: &mut [u32], timing: Oep060Timing) -> Ran
-    ensures { λ x. ⌜ outcome x (now (costs .exit)) ≡ batchOf (now (rs .entry)) (now (costs .entry)) timing ⌝ }
+    ensures { λ x. ⌜ batchOutcome x (now (costs .exit)) ≡ batchOf (now (rs .entry)) (now (costs .entry)) timing ⌝ }
 {
-    let mut tags = timing.cache.tags;
-    let mut state = timing.cache.state;
-    let judged = judge(rs.len(), costs.len());
+    let judged = judge_batch(rs.len(), costs.len());
     let run = judged.run;
     let mut carried = begin(timing);
     let mut i = 0;
     while i < run {
         let r = rs[i];
-        carried = turn(&mut tags, &mut state, costs, i, carried, r);
+        let stepped = cycles_060(carried.timing, r);
+        carried = pay(costs, i, carried, stepped);
         i = i + 1;
     }
-    finish(tags, state, carried, judged)
+    finish(carried, judged)
 }
 
-// The batch for a caller with no lent run, on four records: a walk by hand.
-pub fn run_batch_of_four(rs: [Retirement; 4], costs: &mut [u32], timing: Oep060Timing) -> Ran
-    ensures { λ x. ⌜ outcome x (now (costs .exit)) ≡ batchOf rs (now (costs .entry)) timing ⌝ }
+fn least(n: usize, most: usize) -> usize
+    ensures { λ r. ⌜ r ≡ min n most ⌝ }
 {
-    run_batch(&rs, costs, timing)
+    if n < most {
+        return n;
+    }
+    most
+}
+
+// The batch for a caller with no lent run: the first n of 64 records, or all. A walk by hand.
+pub fn run_batch_of_64(
+    rs: [Retirement; 64],
+    n: usize,
+    costs: &mut [u32],
+    timing: Oep060Timing,
+) -> Ran
+    ensures { λ x. ⌜ batchOutcome x (now (costs .exit)) ≡ batchOf (take n rs) (now (costs .entry)) timing ⌝ }
+{
+    let m = least(n, 64);
+    run_batch(&rs[..m], costs, timing)
 }

@@ -2,3 +2,5 @@ pub mod Bools
 pub mod Patterns
 pub mod Rows
 pub mod Words
+pub mod Filling
+pub mod Packing

@@ -1,5 +1,6 @@
--- The patterns by which document 01 and the Rust know instructions inside a group (the top four bits), as bits 11 to 0 or the low part of them.
--- A pattern is named for the instructions that it is meant for; which others it catches is said where it is used.
+-- The patterns by which document 01 and the Rust know instructions inside a group (the top four bits), as bits 11 to 0
+-- or the low part of them. A pattern is named for the instructions that it is meant for; which others it catches is
+-- said where it is used.
 --
 --   dataRegister   ==  the operand is a data register: mode 0                     op & 0038 is 0000 (hex)
 --   immediate      ==  the operand is immediate: mode 7 reg 4                     op & 003F is 003C (hex)

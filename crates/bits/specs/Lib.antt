@@ -4,7 +4,7 @@
 --   Instructions  ==  the patterns of instructions, by group
 --   Fields        ==  the fields of an opcode
 --   Rows          ==  a rule as rows tried in order
---   Words         ==  two words with a bit in common, and one bit of a word
+--   Words         ==  one bit of a word, bits packed into one, and two words with a bit in common
 pub mod Pattern
 pub mod Instructions
 pub mod Fields

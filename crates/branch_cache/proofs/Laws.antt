@@ -7,10 +7,10 @@ use native.Mathlib.Omega.{arith}
 use lib.ListN.{length, getD, replicate, length-set, length-replicate, length-map, List·getD-map}
 use lib.Seq.{set-getD, getD-set-same, getD-set-other}
 use borrow.Author.Tests.{ne-eqb}
-use Rattle.slot.specs.declared.Slot.{Slot}
-use Rattle.slot.specs.declared.Predicted.the-variants.{Miss}
-use Rattle.slot.specs.Slot.{validOf, userOf, hitOf, updateOf}
-use Rattle.slot.proofs.Laws.{slot-miss-predicts, slot-miss-keeps}
+use Rattle.branch_cache.specs.declared.slot.Slot.{Slot}
+use Rattle.branch_cache.specs.declared.slot.Predicted.the-variants.{Miss}
+use Rattle.branch_cache.specs.Slot.{validOf, userOf, hitOf, updateOf}
+use Rattle.branch_cache.proofs.SlotLaws.{slot-miss-predicts, slot-miss-keeps}
 use Rattle.branch_cache.specs.declared.BranchCache060.{BranchCache060}
 use Rattle.branch_cache.specs.Cache.{slotOf, slotAt, slotPut, clearAllOf, clearUserByteOf, clearUserOf, cachePredictOf, cacheUpdateOf}
 

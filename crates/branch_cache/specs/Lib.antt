@@ -1,4 +1,6 @@
 -- Document 01, part 4: the branch cache.
 --
---   Cache   ==  the cache of 256 slots, over the rule of one slot (crate slot)
+--   Slot   ==  a slot's byte, and the rule of one slot
+--   Cache  ==  the cache of 256 slots, over that rule
 pub mod Cache
+pub mod Slot

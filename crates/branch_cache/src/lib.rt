@@ -1,6 +1,23 @@
-// Part 4 of document 01: the branch cache.
+// Part 4 of document 01: the branch cache, 256 slots of a tag and a byte.
+//
+// Read `slot` first: the hit, the prediction and the update of one slot. The cache here picks the slot of an address
+// and asks it, by value, and has the clears. `stored` asks and updates on lent arrays, and stores that slot alone.
+// `step` calls the one by value, `in_place` the one that stores.
+mod slot;
+mod stored;
+
+pub use slot::Predicted;
+pub use slot::Slot;
+pub use stored::update_at;
 ghost use mathlib.Core.Path.{_≡_};
-ghost use Rattle.branch_cache.specs.Cache.{slotOf, freshOf, clearAllOf, clearUserOf};
+ghost use Rattle.branch_cache.specs.Cache.{
+  slotOf,
+  cachePredictOf,
+  cacheUpdateOf,
+  cacheFreshOf,
+  clearAllOf,
+  clearUserOf,
+};
 use slot::BC_USER;
 
 // Fixed arrays for the Rust's `Vec`s: no cache has a wrong length.
@@ -12,7 +29,7 @@ pub struct BranchCache060 {
 impl BranchCache060 {
     // The Rust's `default`.
     pub fn fresh() -> Self
-        ensures { λ r. ⌜ r ≡ freshOf ⌝ }
+        ensures { λ r. ⌜ r ≡ cacheFreshOf ⌝ }
     {
         BranchCache060 {
             tags: [0; 256],
@@ -43,6 +60,32 @@ impl BranchCache060 {
             }
             i += 1;
         }
+        self
+    }
+
+    pub fn predict(self, pc: u32) -> Predicted
+        ensures { λ r. ⌜ r ≡ cachePredictOf self pc ⌝ }
+    {
+        let i = BranchCache060::slot(pc);
+        let slot = Slot {
+            tag: self.tags[i],
+            byte: self.state[i],
+        };
+        slot.predict(pc)
+    }
+
+    // The next cache.
+    pub fn update(mut self, pc: u32, taken: bool, user: bool) -> Self
+        ensures { λ r. ⌜ r ≡ cacheUpdateOf self pc taken user ⌝ }
+    {
+        let i = BranchCache060::slot(pc);
+        let slot = Slot {
+            tag: self.tags[i],
+            byte: self.state[i],
+        };
+        let next = slot.update(pc, taken, user);
+        self.tags[i] = next.tag;
+        self.state[i] = next.byte;
         self
     }
 }

@@ -1,15 +1,21 @@
-// Reads a stream of cases, and prints a line each: WHAT VERDICT NUMBER PLACE COUNT TOTAL LENT STATE. docs/TESTS.md has the format.
+// Reads a stream of cases, and prints a line each: WHAT VERDICT NUMBER PLACE COUNT TOTAL LENT STATE. docs/TESTS.md has
+// the format.
+//
+// `one_case` reads a header and `read_rest` what follows it; `lend` makes the lent bytes, and `run` chooses what is
+// called: `trace`, `image`, `batch`, the batch of words of `host`, or the break of `window`. `print_line` prints what
+// came of it.
 ghost use mathlib.Core.Path.{_≡_};
 ghost use mathlib.Core.Bool.{true};
 ghost use Prim.Native.Nat.{_+_, _*_, _≤_};
 ghost use lib.ListN.{length};
-use host_numbers::HostRan;
+use host::HostRan;
 use libc::STDIN_FILENO;
 use libc::STDOUT_FILENO;
-use outcome::Ran;
+use refusals::Ran;
 use refusals::Verdict;
-use step::Oep060Timing;
-use step::Retirement;
+use state::Oep060Timing;
+use state::Retirement;
+use window::RawCount;
 use window::Window;
 
 // A stream of more cases than this is not read to its end.
@@ -42,7 +48,7 @@ fn name_of(what: u8) -> [u8; 5] {
         1 => [b't', b'r', b'a', b'c', b'e'],
         2 => [b'r', b'e', b'a', b'd', b' '],
         3 => [b'w', b'r', b'i', b't', b'e'],
-        5 => [b'f', b'o', b'u', b'r', b' '],
+        5 => [b's', b'l', b'i', b'c', b'e'],
         6 => [b'b', b'r', b'e', b'a', b'k'],
         _ => [b'b', b'a', b't', b'c', b'h'],
     }
@@ -144,7 +150,8 @@ struct Words {
     all: [u32; 16384],
 }
 
-// The 32-bit words of bytes, the lowest byte first. One to three bytes that are left over are not read; no case has more than 16,383 words.
+// The 32-bit words of bytes, the lowest byte first. One to three bytes that are left over are not read; no case has
+// more than 16,383 words.
 fn words_of(bytes: &[u8]) -> Words
     ensures { λ r. ⌜ (r .count ≤ 16384) × (length (r .all) ≡ 16384) ⌝ }
 {
@@ -164,7 +171,7 @@ fn put_words(words: [u32; 16384], bytes: &mut [u8]) {
     let mut i: usize = 0;
     while i < count {
         let word = words[i];
-        storing::put_u32(bytes, 4 * i, word);
+        little_endian::put_u32(bytes, 4 * i, word);
         i += 1;
     }
 }
@@ -212,7 +219,7 @@ fn write_image(lent: &mut [u8], timing: Oep060Timing) -> Ran {
 
 fn run_break(timing: Oep060Timing) -> Ran {
     let cache = timing.cache;
-    let window = lent::break_in_place(timing.window);
+    let window = window::break_in_place(timing.window);
     Ran {
         verdict: Verdict::Accepted,
         count: 0,
@@ -232,7 +239,7 @@ fn settle(ran: Ran) -> Done {
     let next = ran.timing;
     image::image_write(next, &mut image);
     let verdict = ran.verdict;
-    let ran = host_numbers::host_ran(verdict, ran.count, ran.total);
+    let ran = host::host_ran(verdict, ran.count, ran.total);
     Done { ran, image }
 }
 
@@ -244,44 +251,49 @@ fn record(bytes: &[u8], at: usize) -> Retirement
     let flags = little_endian::u16_at(bytes, at + 2);
     let ppc = little_endian::u32_at(bytes, at + 4);
     let pc = little_endian::u32_at(bytes, at + 8);
-    let raw = signed::i32_of(little_endian::u32_at(bytes, at + 12));
-    payload::retirement(op, flags, ppc, pc, raw)
+    let raw = RawCount(little_endian::i32_of(little_endian::u32_at(bytes, at + 12)));
+    state::retirement_of(op, flags, ppc, pc, raw)
 }
 
-fn four(bytes: &[u8]) -> [Retirement; 4]
-    requires { ⌜ length (now bytes) ≡ 64 ⌝ }
-{
-    let first = record(bytes, 0);
-    let second = record(bytes, 16);
-    let third = record(bytes, 32);
-    let fourth = record(bytes, 48);
-    [first, second, third, fourth]
-}
-
-// Four records, as the batch takes them. Another number of them is refused as too many are, which no case has.
-fn run_four(bytes: &[u8], places: &mut [u32], timing: Oep060Timing) -> Ran {
-    if bytes.len() != 64 {
-        return outcome::refused(refusals::Refusal::Oversized, timing);
+// The record of this number; what has no bytes is a record of zeros.
+fn record_or_none(bytes: &[u8], i: usize) -> Retirement {
+    if i < bytes.len() / 16 {
+        return record(bytes, 16 * i);
     }
-    batch::run_batch_of_four(four(bytes), places, timing)
+    state::retirement_of(0, 0, 0, 0, RawCount(0))
+}
+
+fn records_of(bytes: &[u8]) -> [Retirement; 64] {
+    let mut all = [record_or_none(bytes, 0); 64];
+    let mut i: usize = 0;
+    while i < 64 {
+        all[i] = record_or_none(bytes, i);
+        i += 1;
+    }
+    all
+}
+
+// The records as a lent run of structs.
+fn run_slice(bytes: &[u8], places: &mut [u32], timing: Oep060Timing) -> Ran {
+    batch::run_batch_of_64(records_of(bytes), bytes.len() / 16, places, timing)
 }
 
 // A batch of words, as a host lends it.
 fn run_words(words: &[u32], places: &mut [u32], timing: Oep060Timing) -> Done {
     let mut tags = timing.cache.tags;
     let mut state = timing.cache.state;
-    let mut window = [0; 5];
-    numbers::put_window(&mut window, timing.window);
+    let mut window = [0; in_place::WINDOW_NUMBERS];
+    in_place::put_window(&mut window, timing.window);
     let ran = host::timing_060_run_batch_at(words, places, &mut tags, &mut state, &mut window);
     let mut image = [0u8; 1288];
     host::timing_060_image_write_at(&tags, &state, &window, &mut image);
     Done { ran, image }
 }
 
-// A batch of four records, or of words.
+// A batch of at most 64 structs, or of words.
 fn run_records(what: u8, bytes: &[u8], places: &mut [u32], timing: Oep060Timing) -> Done {
     if what == 5 {
-        return settle(run_four(bytes, places, timing));
+        return settle(run_slice(bytes, places, timing));
     }
     let words = words_of(bytes);
     let n = words.count;
@@ -332,7 +344,8 @@ fn answer(what: u8, bytes: &[u8], lent: &mut [u8], timing: Oep060Timing) {
     print_line(what, done, lent);
 }
 
-// One case, with a buffer for what it lends, and a word of its own if one of the 16 bytes beyond the room, which hold zeros, was written.
+// One case, with a buffer for what it lends, and a word of its own if one of the 16 bytes beyond the room, which hold
+// zeros, was written.
 fn lend(what: u8, room: usize, bytes: &[u8], timing: Oep060Timing)
     requires { ⌜ room ≤ 65535 ⌝ }
 {

@@ -1,12 +1,14 @@
 -- Document 01, part 1, "Class word". The Rust: OepClass, Info060 and the constants F_*.
 --
---   classNumber c         ==  the numbers of the classes, 0 to 3                 the Rust's `enum OepClass`
---   BRANCH .. WRITES_MEM  ==  the flags                                          "then flags: BRANCH 0080, DBCC 0100, .. (hex)"
+--   classNumber c         ==  the numbers of the classes, 0 to 3: the Rust's `enum OepClass`
+--   BRANCH .. WRITES_MEM  ==  the flags
+--                             "then flags: BRANCH 0080, DBCC 0100, .. (hex)"
 --   wordOf c k f          ==  the class word of class number c, k clocks and the sum f of some flags
---                                                                                "class in bits 0 and 1, clocks in bits 2 to 6, then flags"
---   newOf c k f           ==  the word that the Rust's `Info060::new` packs from any numbers: of the clocks only five bits,
---                             and each bit of f, wherever it stands
---   classOf w             ==  the class number in a word                         "`class`, `cycles` and `has` answer from the word alone"
+--                             "class in bits 0 and 1, clocks in bits 2 to 6, then flags"
+--   newOf c k f           ==  the word that the Rust's `Info060::new` packs from any numbers: of the clocks only five
+--                             bits, and each bit of f, wherever it stands
+--   classOf w             ==  the class number in a word
+--                             "`class`, `cycles` and `has` answer from the word alone"
 --   clocksOf w            ==  the clocks in a word
 --   flagsOf w             ==  the flags in a word
 --   has w f               ==  the word and the flag f have a bit in common, for every f

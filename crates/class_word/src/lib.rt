@@ -1,4 +1,8 @@
 // Part 1 of document 01: the class word.
+//
+// `Info060::new` packs class, clocks and flags by shifts; `class`, `cycles` and `has` answer from the word alone. The
+// crates of part 2 make words, and `window` and `cost` read them. `Clocks` is apart from raw counts, which `window`
+// has.
 ghost use mathlib.Core.Path.{_≡_};
 ghost use Rattle.class_word.specs.Word.{classNumber, newOf, classOf, clocksOf, has, info, clocks};
 

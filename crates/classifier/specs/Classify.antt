@@ -1,10 +1,11 @@
 -- Document 01, part 2, "Classifying an opcode". The Rust: classify_060_opcode.
 --
--- Each group is a list of rows, tried in order: LowGroups of the crate low_groups, Group4 of the crate group_four, and HighGroups of the crate high_groups.
+-- Each group is a list of rows, tried in order: LowGroups of the crate low_groups, Group4 of the crate group_four, and
+-- HighGroups of the crate high_groups.
 --
---   groups g op         ==  the rows of group g                        "The top four bits choose the group"
---   entryOf op          ==  class, clocks and flags of an opcode
---   classifyOf op       ==  the class word of an opcode
+--   groups g op    ==  the rows of group g   "The top four bits choose the group"
+--   entryOf op     ==  class, clocks and flags of an opcode
+--   classifyOf op  ==  the class word of an opcode
 use Prim.Native.Nat.{ℕ}
 use mathlib.Core.Bool.{_&&_, _||_}
 use lib.Dec.{eqb, leb}

@@ -1,9 +1,11 @@
 // The cost lister: a trace from standard input, its listing to standard output.
+//
+// `input` reads, `listing` makes the text from a fresh state, and what cannot be read is said on standard error.
 use input::Input;
 use libc::STDERR_FILENO;
 use libc::STDOUT_FILENO;
 use listing::LISTING_ROOM;
-use step::Oep060Timing;
+use state::Oep060Timing;
 
 fn main() {
     // One byte more than is taken, so that longer input is seen to be longer.

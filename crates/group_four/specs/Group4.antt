@@ -1,22 +1,41 @@
 -- Document 01, part 2, "Classifying an opcode": group 4. The Rust: classify_060_opcode.
 --
--- The group is a list of rows, tried in order: a pattern of the opcode's lower bits, named for its instructions (Instructions of
--- the crate bits), and what they give (Entry of the crate operand). A comment in quotation marks is document 01's sentence on a row
--- that surprises.
+-- The group is a list of rows, tried in order: a pattern of the opcode's lower bits, named for its instructions
+-- (Instructions of the crate bits), and what they give (Entry of the crate operand). A comment in quotation marks is
+-- document 01's sentence on a row that surprises.
 --
---   group4   ==  the rows of group 4   "The Rust's test order within a group counts"
+--   group4  ==  the rows of group 4   "The Rust's test order within a group counts"
 use Prim.Native.Nat.{ℕ, _+_}
 use mathlib.Core.Bool.{not, _&&_}
 use Rattle.bits.specs.Pattern.{matches}
-use Rattle.bits.specs.Instructions.{dataRegister, size01, moveFromSr, moveFromCcr, moveToCcr, moveToSr, movem, tas, mullDivl, swap, nbcdExt, clr, negx, neg, not', lea, chk, tst}
+use Rattle.bits.specs.Instructions.{
+  dataRegister,
+  size01,
+  moveFromSr,
+  moveFromCcr,
+  moveToCcr,
+  moveToSr,
+  movem,
+  tas,
+  mullDivl,
+  swap,
+  nbcdExt,
+  clr,
+  negx,
+  neg,
+  not',
+  lea,
+  chk,
+  tst,
+}
 use Rattle.bits.specs.Rows.{Rows, otherwise, _⇒_⨾_}
 use Rattle.class_word.specs.declared.OepClass.the-variants.{PoepSoep, PoepOnly, PoepUntilLast}
 use Rattle.class_word.specs.Word.{VARIABLE, «DEFINES_CCR»}
 use Rattle.operand.specs.Entry.{Entry, entry, plain, alu, serial, noAccess, memoryOnly, addressed, read, modified}
 
--- "In group 4 the test "bits 9 to 11 are 100 and bits 6 and 7 are not 01" comes before LEA, so LEA into A4 reads and writes
--- memory and defines the CCR, and CHK on D4 is class 0": it is the row of NBCD and EXT
--- the last row is JSR, JMP, RTS, RTE, RTR, LINK, UNLK, PEA, TRAP, STOP, MOVEC, MOVE USP and what else is left
+-- "In group 4 the test "bits 9 to 11 are 100 and bits 6 and 7 are not 01" comes before LEA, so LEA into A4 reads and
+-- writes memory and defines the CCR, and CHK on D4 is class 0": it is the row of NBCD and EXT. The last row is JSR,
+-- JMP, RTS, RTE, RTR, LINK, UNLK, PEA, TRAP, STOP, MOVEC, MOVE USP and what else is left
 unfoldable pub group4 : ℕ → Rows Entry
 group4 op =
     matches moveFromSr op ⇒ serial ⨾

@@ -1,10 +1,14 @@
 // Part 2 of document 01: the class words of group 4.
+//
+// The rows are many and their order counts, so each function takes some of them and hands on what is left: `group4`,
+// `group4_middle`, `group4_rest`, `group4_last`. The words come from `operand`. `classifier` and `profile` call
+// `group4`.
 ghost use mathlib.Core.Path.{_≡_};
 ghost use mathlib.Core.Bool.{false, not, _&&_};
 ghost use Rattle.bits.specs.Pattern.{matches};
 ghost use Rattle.bits.specs.Instructions.{dataRegister, size01, movem, nbcdExt};
 ghost use Rattle.bits.specs.Fields.{modeOf, regOf};
-ghost use Rattle.bits.specs.Rows.{after};
+ghost use Rattle.bits.specs.Rows.{rowsAfter};
 ghost use Rattle.class_word.specs.Word.{info};
 ghost use Rattle.class_word.specs.declared.OepClass.the-variants.{PoepSoep};
 ghost use Rattle.operand.specs.Entry.{ea, entry, entryWord, packed};
@@ -16,7 +20,7 @@ use class_word::F_WRITES_MEM;
 use class_word::Info060;
 use class_word::OepClass;
 use operand::alu_of;
-use operand::flags_of;
+use operand::operand_flags;
 use operand::poep_only;
 
 const MOVEM: u16 = F_VARIABLE | F_READS_MEM | F_WRITES_MEM;
@@ -28,7 +32,7 @@ const MULL_DIVL: u16 = F_DEFINES_CCR | F_VARIABLE;
 fn lea_060(op: u16) -> Info060
     ensures { λ r. ⌜ r ≡ info (entryWord (entry PoepSoep 1 0 (ea (modeOf op) (regOf op) false false))) ⌝ }
 {
-    Info060::new(OepClass::PoepSoep, 1, flags_of(op, false, false))
+    Info060::new(OepClass::PoepSoep, 1, operand_flags(op, false, false))
 }
 
 pub fn group4(op: u16) -> Info060
@@ -42,7 +46,7 @@ pub fn group4(op: u16) -> Info060
 
 // The rows after the moves from and to SR and CCR.
 fn group4_middle(op: u16) -> Info060
-    ensures { λ r. ⌜ r ≡ packed (after 4 (group4 op)) ⌝ }
+    ensures { λ r. ⌜ r ≡ packed (rowsAfter 4 (group4 op)) ⌝ }
 {
     if is_movem(op) {
         return Info060::new(OepClass::PoepUntilLast, 2, MOVEM);
@@ -75,7 +79,7 @@ fn is_nbcd_or_ext(op: u16) -> bool
 }
 
 fn group4_rest(op: u16) -> Info060
-    ensures { λ r. ⌜ r ≡ packed (after 9 (group4 op)) ⌝ }
+    ensures { λ r. ⌜ r ≡ packed (rowsAfter 9 (group4 op)) ⌝ }
 {
     match op & 0x0F00 {
         0x0200 | 0x0000 | 0x0400 | 0x0600 => alu_of(op, true, true),
@@ -85,7 +89,7 @@ fn group4_rest(op: u16) -> Info060
 
 // The rows after CLR, NEGX, NEG and NOT.
 fn group4_last(op: u16) -> Info060
-    ensures { λ r. ⌜ r ≡ packed (after 13 (group4 op)) ⌝ }
+    ensures { λ r. ⌜ r ≡ packed (rowsAfter 13 (group4 op)) ⌝ }
 {
     if (op & 0x01C0) == 0x01C0 {
         return lea_060(op);

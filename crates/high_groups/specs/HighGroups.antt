@@ -1,14 +1,25 @@
 -- Document 01, part 2, "Classifying an opcode": groups 8 to 14. The Rust: classify_060_opcode.
 --
--- Each group is a list of rows, tried in order: a pattern of the opcode's lower bits, named for its instructions (Instructions of
--- the crate bits), and what they give (Entry of the crate operand). A comment in quotation marks is document 01's sentence on a row
--- that surprises.
+-- Each group is a list of rows, tried in order: a pattern of the opcode's lower bits, named for its instructions
+-- (Instructions of the crate bits), and what they give (Entry of the crate operand). A comment in quotation marks is
+-- document 01's sentence on a row that surprises.
 --
---   group8 .. group14   ==  the rows of a group                        "The Rust's test order within a group counts"
---   addSub              ==  the rows of groups 9 and 13                "groups 1 to 3, and 9 with 13, share rules"
+--   group8 .. group14  ==  the rows of a group           "The Rust's test order within a group counts"
+--   addSub             ==  the rows of groups 9 and 13   "groups 1 to 3, and 9 with 13, share rules"
 use Prim.Native.Nat.{ℕ, _+_}
 use Rattle.bits.specs.Pattern.{matches}
-use Rattle.bits.specs.Instructions.{size11, toOperand, sbcdAbcd, pack, addxSubx, exgData, exgAddress, exgBoth, bitField, rox}
+use Rattle.bits.specs.Instructions.{
+  size11,
+  toOperand,
+  sbcdAbcd,
+  pack,
+  addxSubx,
+  exgData,
+  exgAddress,
+  exgBoth,
+  bitField,
+  rox,
+}
 use Rattle.bits.specs.Rows.{Rows, otherwise, _⇒_⨾_}
 use Rattle.class_word.specs.declared.OepClass.the-variants.{PoepOnly}
 use Rattle.class_word.specs.Word.{VARIABLE, «DEFINES_CCR», «USES_CCR_LATE»}

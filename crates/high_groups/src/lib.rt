@@ -1,9 +1,12 @@
 // Part 2 of document 01: the class words of groups 8 to 14, but for group 10, which has no rows.
+//
+// Each group is one public function, whose tests are its rows in the order of the definition; groups 9 and 13 share
+// `add_sub`. The words come from `operand`. `classifier` and `profile` choose the group.
 ghost use mathlib.Core.Path.{_≡_};
 ghost use mathlib.Core.Bool.{true};
 ghost use Prim.Native.Nat.{_+_};
 ghost use Rattle.bits.specs.Fields.{modeOf, regOf};
-ghost use Rattle.bits.specs.Rows.{after};
+ghost use Rattle.bits.specs.Rows.{rowsAfter};
 ghost use Rattle.class_word.specs.Word.{info, «DEFINES_CCR», «USES_CCR_LATE»};
 ghost use Rattle.class_word.specs.declared.OepClass.the-variants.{PoepOnly};
 ghost use Rattle.operand.specs.Entry.{ea, entry, entryWord, packed};
@@ -16,7 +19,7 @@ use class_word::F_WRITES_MEM;
 use class_word::Info060;
 use class_word::OepClass;
 use operand::alu_of;
-use operand::flags_of;
+use operand::operand_flags;
 use operand::poep_only;
 use operand::unclassified;
 
@@ -30,7 +33,7 @@ const MEMORY_SHIFT: u16 = F_DEFINES_CCR | F_READS_MEM | F_WRITES_MEM; // never F
 
 // The last two rows of groups 8, 9, B, C and D: bit 8 says whether the operand is modified.
 fn read_or_modified(op: u16) -> Info060
-    ensures { λ r. ⌜ r ≡ packed (after 1 (group11 op)) ⌝ }
+    ensures { λ r. ⌜ r ≡ packed (rowsAfter 1 (group11 op)) ⌝ }
 {
     alu_of(op, true, (op & 0x0100) == 0x0100)
 }
@@ -49,9 +52,11 @@ pub fn group8(op: u16) -> Info060
 }
 
 fn addx_subx(op: u16) -> Info060
-    ensures { λ r. ⌜ r ≡ info (entryWord (entry PoepOnly 1 («DEFINES_CCR» + «USES_CCR_LATE») (ea (modeOf op) (regOf op) true true))) ⌝ }
+    ensures { λ r. ⌜ r
+        ≡ info (entryWord (entry PoepOnly 1 («DEFINES_CCR» + «USES_CCR_LATE»)
+        (ea (modeOf op) (regOf op) true true))) ⌝ }
 {
-    poep_only(1, EXTENDED | flags_of(op, true, true))
+    poep_only(1, EXTENDED | operand_flags(op, true, true))
 }
 
 pub fn add_sub(op: u16) -> Info060

@@ -1,8 +1,14 @@
--- What a host calls: the steps, runs and images of the crates below, over numbers that it lends.
+-- What a host calls: the steps, runs and images of the crates below, over numbers that it lends. One retirement and the
+-- other events are in_place's.
 --
---   Events   ==  a break and the clears on lent numbers; one retirement is in_place's
---   Runs     ==  runs of a trace, on lent numbers; of a batch they are words'
---   Images   ==  image writing and image reading, on lent numbers
-pub mod Events
-pub mod Runs
-pub mod Images
+--   HostMasks   ==  the masks of an opcode
+--   HostRan     ==  what a host is given back: a verdict, a count and a total as numbers, and the lent numbers
+--                   afterwards
+--   HostRuns    ==  runs of a trace, on lent numbers
+--   HostWords   ==  a batch as 32-bit words, four for each record: their retirements, and their batch on lent numbers
+--   HostImages  ==  image writing and image reading, on lent numbers
+pub mod HostMasks
+pub mod HostRan
+pub mod HostRuns
+pub mod HostWords
+pub mod HostImages

@@ -1,24 +1,32 @@
 // What a host in C or Rust calls: it lends its state as numbers, and need test nothing first.
+//
+// `results` has what a run gives, as numbers, and the next state stored; `words` a batch as 32-bit words. Each function
+// here is a thin one over the crates below: raw counts and clocks are taken apart here and nowhere above.
+mod results;
+mod words;
+
+pub use results::HostRan;
+pub use results::host_ran;
 ghost use mathlib.Core.Path.{_≡_};
 ghost use mathlib.Core.List.{List};
 ghost use Prim.Native.Nat.{ℕ};
 ghost use Rattle.classifier.specs.Classify.{classifyOf};
-ghost use Rattle.step.specs.Step.{freshOf};
-ghost use Rattle.step.specs.declared.Event.the-variants.{Broken, ClearedAll, ClearedUser};
-ghost use Rattle.by_numbers.specs.Lent.{lent, lentOf};
-ghost use Rattle.payload.specs.Passed.{retirementOf};
-ghost use Rattle.in_place.specs.Retire.{paid, retireAtOf};
-ghost use Rattle.host_numbers.specs.Ran.{hostOutcome};
-ghost use Rattle.words.specs.Words.{runBatchAtOf};
-ghost use Rattle.host.specs.Events.{eventAtOf, hostMasksOf};
-ghost use Rattle.host.specs.Runs.{runTraceAtOf};
-ghost use Rattle.host.specs.Images.{hostImage, imageWriteAtOf, hostState, imageReadAtOf};
-use branch_cache::BranchCache060;
-use host_numbers::HostRan;
-use host_numbers::fresh_at;
-use host_numbers::host_ran;
-use host_numbers::put_timing;
-use numbers::see_window;
+ghost use Rattle.state.specs.Timing.{freshOf};
+ghost use Rattle.state.specs.declared.Event.the-variants.{Broken, ClearedAll, ClearedUser};
+ghost use Rattle.in_place.specs.Lent.{lent, lentOf};
+ghost use Rattle.in_place.specs.Retire.{paid, retireAtOf, eventAtOf};
+ghost use Rattle.host.specs.HostRan.{hostOutcome};
+ghost use Rattle.host.specs.HostWords.{runBatchAtOf};
+ghost use Rattle.host.specs.HostRuns.{runTraceAtOf};
+ghost use Rattle.host.specs.HostImages.{hostImage, imageWriteAtOf, hostState, imageReadAtOf};
+ghost use Rattle.state.specs.Flags.{retirementOf};
+ghost use Rattle.host.specs.HostMasks.{hostMasksOf};
+ghost use Rattle.class_word.specs.Word.{clocks};
+ghost use Rattle.window.specs.Raw.{rawCount};
+use in_place::WindowNumbers;
+use results::fresh_at;
+use results::put_accepted;
+use results::put_timing;
 
 #[repr(C)]
 pub struct HostMasks {
@@ -31,7 +39,7 @@ pub struct HostMasks {
 pub extern "C" fn timing_060_fresh_at(
     tags: &mut [u32; 256],
     state: &mut [u8; 256],
-    window: &mut [u16; 5],
+    window: &mut WindowNumbers,
 )
     ensures { λ _. ⌜ lent (now (tags .exit)) (now (state .exit)) (now (window .exit)) ≡ lentOf freshOf ⌝ }
 {
@@ -43,87 +51,84 @@ pub extern "C" fn timing_060_fresh_at(
 pub extern "C" fn timing_060_retire_at(
     tags: &mut [u32; 256],
     state: &mut [u8; 256],
-    window: &mut [u16; 5],
+    window: &mut WindowNumbers,
     op: u16,
     flags: u16,
     ppc: u32,
     pc: u32,
     raw: i32,
 ) -> u32
-    ensures { λ r. ⌜ paid r (lent (now (tags .exit)) (now (state .exit)) (now (window .exit)))
-        ≡ retireAtOf (lent (now (tags .entry)) (now (state .entry)) (now (window .entry))) (retirementOf op flags ppc pc raw) ⌝ }
+    ensures { λ r. ⌜ paid (clocks r) (lent (now (tags .exit)) (now (state .exit)) (now (window .exit)))
+        ≡ retireAtOf (lent (now (tags .entry)) (now (state .entry)) (now (window .entry)))
+        (retirementOf op flags ppc pc (rawCount raw)) ⌝ }
 {
     in_place::retire_at(tags, state, window, op, flags, ppc, pc, raw)
 }
 
 // The break: tags and slots stay, and are not lent.
 #[no_mangle]
-pub extern "C" fn timing_060_break_at(window: &mut [u16; 5])
-    ensures { λ _. ⌜ ((tags state : List ℕ) → lent tags state (now (window .exit)) ≡ eventAtOf (lent tags state (now (window .entry))) Broken) ⌝ }
+pub extern "C" fn timing_060_break_at(window: &mut WindowNumbers)
+    ensures { λ _. ⌜ ((tags state : List ℕ) → lent tags state (now (window .exit))
+        ≡ eventAtOf (lent tags state (now (window .entry))) Broken) ⌝ }
 {
-    let came = numbers::window_at(*window);
-    let w = lent::break_in_place(came);
-    numbers::put_window(window, w);
+    in_place::shut_window(window);
 }
 
 // CACR.CABC: the tags stay, and are not lent.
 #[no_mangle]
-pub extern "C" fn timing_060_clear_all_at(state: &mut [u8; 256], window: &mut [u16; 5])
-    ensures { λ _. ⌜ ((tags : List ℕ) → lent tags (now (state .exit)) (now (window .exit)) ≡ eventAtOf (lent tags (now (state .entry)) (now (window .entry))) ClearedAll) ⌝ }
+pub extern "C" fn timing_060_clear_all_at(state: &mut [u8; 256], window: &mut WindowNumbers)
+    ensures { λ _. ⌜ ((tags : List ℕ) → lent tags (now (state .exit)) (now (window .exit))
+        ≡ eventAtOf (lent tags (now (state .entry)) (now (window .entry))) ClearedAll) ⌝ }
 {
-    *state = [0; 256];
-    see_window(window);
+    in_place::clear_all_at(state, window);
 }
 
 // CACR.CUBC: the tags stay, and are not lent; the cache's own rule looks at none.
 #[no_mangle]
-pub extern "C" fn timing_060_clear_user_at(state: &mut [u8; 256], window: &mut [u16; 5])
-    ensures { λ _. ⌜ ((tags : List ℕ) → lent tags (now (state .exit)) (now (window .exit)) ≡ eventAtOf (lent tags (now (state .entry)) (now (window .entry))) ClearedUser) ⌝ }
+pub extern "C" fn timing_060_clear_user_at(state: &mut [u8; 256], window: &mut WindowNumbers)
+    ensures { λ _. ⌜ ((tags : List ℕ) → lent tags (now (state .exit)) (now (window .exit))
+        ≡ eventAtOf (lent tags (now (state .entry)) (now (window .entry))) ClearedUser) ⌝ }
 {
-    let cache = BranchCache060 {
-        tags: [0; 256],
-        state: *state,
-    };
-    let cleared = cache.clear_user();
-    let bytes = cleared.state;
-    *state = bytes;
-    see_window(window);
+    in_place::clear_user_at(state, window);
 }
 
 #[no_mangle]
 pub extern "C" fn timing_060_class_word(op: u16) -> u16
     ensures { λ r. ⌜ r ≡ classifyOf op ⌝ }
 {
-    opcodes::info_060(op).0
+    classifier::info_060(op).0
 }
 
 #[no_mangle]
 pub extern "C" fn timing_060_masks_of(op: u16) -> HostMasks
     ensures { λ r. ⌜ r ≡ hostMasksOf op ⌝ }
 {
-    let masks = opcodes::reg_masks_060(op);
+    let masks = masks::reg_masks_060(op);
     HostMasks {
         uses: masks.uses,
         defs: masks.defs,
     }
 }
 
-// A run of a trace: the state is taken once, and stored back once.
+// A run of a trace: the state is taken once, and the next one stored once; a refused run writes nothing.
 #[no_mangle]
 pub extern "C" fn timing_060_run_trace_at(
     trace: &[u8],
     costs: &mut [u8],
     tags: &mut [u32; 256],
     state: &mut [u8; 256],
-    window: &mut [u16; 5],
+    window: &mut WindowNumbers,
 ) -> HostRan
-    ensures { λ r. ⌜ hostOutcome r (now (costs .exit)) (lent (now (tags .exit)) (now (state .exit)) (now (window .exit)))
-        ≡ runTraceAtOf (now (trace .entry)) (now (costs .entry)) (lent (now (tags .entry)) (now (state .entry)) (now (window .entry))) ⌝ }
+    ensures { λ r. ⌜ hostOutcome r (now (costs .exit)) (lent (now (tags .exit)) (now (state .exit))
+        (now (window .exit)))
+        ≡ runTraceAtOf (now (trace .entry)) (now (costs .entry)) (lent (now (tags .entry)) (now (state .entry))
+        (now (window .entry))) ⌝ }
 {
-    let given = by_numbers::timing_at(*tags, *state, *window);
+    let given = in_place::timing_at(*tags, *state, *window);
     let ran = trace::run_trace(trace, costs, given);
-    put_timing(tags, state, window, ran.timing);
     let verdict = ran.verdict;
+    let next = ran.timing;
+    put_accepted(tags, state, window, verdict, next);
     host_ran(verdict, ran.count, ran.total)
 }
 
@@ -134,10 +139,12 @@ pub extern "C" fn timing_060_run_batch_at(
     costs: &mut [u32],
     tags: &mut [u32; 256],
     state: &mut [u8; 256],
-    window: &mut [u16; 5],
+    window: &mut WindowNumbers,
 ) -> HostRan
-    ensures { λ r. ⌜ hostOutcome r (now (costs .exit)) (lent (now (tags .exit)) (now (state .exit)) (now (window .exit)))
-        ≡ runBatchAtOf (now (records .entry)) (now (costs .entry)) (lent (now (tags .entry)) (now (state .entry)) (now (window .entry))) ⌝ }
+    ensures { λ r. ⌜ hostOutcome r (now (costs .exit)) (lent (now (tags .exit)) (now (state .exit))
+        (now (window .exit)))
+        ≡ runBatchAtOf (now (records .entry)) (now (costs .entry)) (lent (now (tags .entry)) (now (state .entry))
+        (now (window .entry))) ⌝ }
 {
     words::run_batch_at(records, costs, tags, state, window)
 }
@@ -147,12 +154,13 @@ pub extern "C" fn timing_060_run_batch_at(
 pub extern "C" fn timing_060_image_write_at(
     tags: &[u32; 256],
     state: &[u8; 256],
-    window: &[u16; 5],
+    window: &WindowNumbers,
     image: &mut [u8],
 ) -> HostRan
-    ensures { λ r. ⌜ hostImage r (now (image .exit)) ≡ imageWriteAtOf (lent (now (tags .entry)) (now (state .entry)) (now (window .entry))) (now (image .entry)) ⌝ }
+    ensures { λ r. ⌜ hostImage r (now (image .exit))
+        ≡ imageWriteAtOf (lent (now (tags .entry)) (now (state .entry)) (now (window .entry))) (now (image .entry)) ⌝ }
 {
-    let timing = by_numbers::timing_at(*tags, *state, *window);
+    let timing = in_place::timing_at(*tags, *state, *window);
     let written = image::image_write(timing, image);
     let verdict = written.verdict;
     host_ran(verdict, written.written, 0)
@@ -164,9 +172,10 @@ pub extern "C" fn timing_060_image_read_at(
     image: &[u8],
     tags: &mut [u32; 256],
     state: &mut [u8; 256],
-    window: &mut [u16; 5],
+    window: &mut WindowNumbers,
 ) -> HostRan
-    ensures { λ r. ⌜ hostState r (lent (now (tags .exit)) (now (state .exit)) (now (window .exit))) ≡ imageReadAtOf (now (image .entry)) ⌝ }
+    ensures { λ r. ⌜ hostState r (lent (now (tags .exit)) (now (state .exit)) (now (window .exit)))
+        ≡ imageReadAtOf (now (image .entry)) ⌝ }
 {
     let read = image::image_read(image);
     put_timing(tags, state, window, read.timing);

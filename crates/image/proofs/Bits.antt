@@ -1,42 +1,26 @@
--- The three bits of a window in a byte, put and taken out: by arithmetic on three numbers that are 0 or 1.
+-- The three bits of a window in a byte, put and taken out: what holds of packed bits.
 -- Assumes nothing.
-use mathlib.Core.Path.{_≡_, refl}
+use mathlib.Core.Path.{_≡_, sym, _∙_}
 use mathlib.Core.Bool.{Bool}
-use Prim.Native.Nat.{ℕ, zero, suc, _+_, _*_, _/_, _%_, _^_, _<_}
-use native.Mathlib.Omega.{arith}
-use lib.Dec.{eqb}
-use Rattle.bits.specs.Words.{num, bit}
-use Rattle.bits.proofs.Words.{num-small, num-is}
+use mathlib.Core.List.{List, [], _∷_}
+use Prim.Native.Nat.{ℕ, _<_, _/_}
+use Rattle.bits.specs.Words.{bit, packedBits}
+use Rattle.bits.proofs.Packing.{bit-down, packed-bit, packed-small, packed-all}
 use Rattle.window.specs.declared.Window.{Window}
-use Rattle.image_bytes.specs.Bytes.{bitsOf}
-
--- a digit that is a yes or no
-digit-is : (n : ℕ) (b : Bool) → n ≡ num b → eqb n 1 ≡ b
-digit-is n b e = rw e (num-is b)
+use Rattle.image.specs.Bytes.{bitsOf}
 
 module _ (w : Window) where
+  abbrev three : List Bool
+  three = w .ccr ∷ w .mem ∷ w .warm ∷ []
+
   pub bits-small : bitsOf w < 8
   unfolding bitsOf
-  bits-small = omega (arith, num-small (w .ccr), num-small (w .mem), num-small (w .warm))
+  bits-small = packed-small three
 
   pub bits-apart : (bit 0 (bitsOf w) ≡ w .ccr) × (bit 1 (bitsOf w) ≡ w .mem) × (bit 2 (bitsOf w) ≡ w .warm)
   unfolding bitsOf
-  bits-apart =
-      let a : num (w .ccr) < 2 = num-small (w .ccr) in
-      let b : num (w .mem) < 2 = num-small (w .mem) in
-      let c : num (w .warm) < 2 = num-small (w .warm) in (
-        digit-is (bitsOf w / 2 ^ 0 % 2) (w .ccr) (omega arith),
-        digit-is (bitsOf w / 2 ^ 1 % 2) (w .mem) (omega arith),
-        digit-is (bitsOf w / 2 ^ 2 % 2) (w .warm) (omega arith),
-      )
-
--- a digit as yes or no, and back
-num-digit : (n : ℕ) → n < 2 → num (eqb n 1) ≡ n
-num-digit zero h = refl
-num-digit (suc zero) h = refl
-num-digit (suc (suc n)) h = absurd (omega arith)
+  bits-apart = (packed-bit three 0, packed-bit three 1, packed-bit three 2)
 
 -- the bits of a byte below 8 are all of it
-pub bits-all : (b : ℕ) → b < 8 → num (bit 0 b) + 2 * num (bit 1 b) + 4 * num (bit 2 b) ≡ b
-bits-all b h =
-    omega (arith, num-digit (b / 2 ^ 0 % 2) (omega arith), num-digit (b / 2 ^ 1 % 2) (omega arith), num-digit (b / 2 ^ 2 % 2) (omega arith))
+pub bits-all : (b : ℕ) → b < 8 → packedBits (bit 0 b ∷ bit 1 b ∷ bit 2 b ∷ []) ≡ b
+bits-all b h = rw (bit-down 0 b, bit-down 1 b ∙ bit-down 0 (b / 2)) (packed-all 3 b h)

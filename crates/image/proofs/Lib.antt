@@ -1,7 +1,7 @@
-pub mod Numbers
 pub mod Writing
 pub mod Refusals
 pub mod Bits
 pub mod WrittenRead
 pub mod ReadWritten
 pub mod RoundTrip
+pub mod ImageBytesWriting

@@ -11,19 +11,19 @@ use lib.Seq.{take-add, take-all}
 use borrow.Author.Tests.{not-false, eqb-true, leb-false, lt-ltb}
 use Rattle.bits.specs.Words.{bit}
 use Rattle.bits.proofs.Bools.{and-left, and-right}
-use Rattle.little_endian.specs.Numbers.{numberAt, bytesOf, Below}
+use Rattle.little_endian.specs.Numbers.{numberAt, bytesOf, Below, bytesOfEach}
 use Rattle.little_endian.proofs.Numbers.{bytes-number}
 use Rattle.window.specs.declared.Window.{Window}
 use Rattle.window.specs.Windows.{seen}
 use Rattle.refusals.specs.declared.Verdict.the-variants.{Accepted}
-use Rattle.image_bytes.specs.Bytes.{bytesOfEach, bitsOf, headerBytes, windowBytes}
-use Rattle.image_state.specs.Parts.{tagsAt, slotsAt, openAt, defMaskAt, bitsAt, windowAt}
-use Rattle.image_state.specs.Wrong.{headerWrong, shutNotZero, windowWrong}
-use Rattle.image.specs.Image.{imageOf, stateAt}
-use Rattle.image.specs.Entries.{judgedOf}
-use Rattle.image.proofs.Numbers.{each-numbers}
+use Rattle.image.specs.Bytes.{bitsOf, headerBytes, windowBytes}
+use Rattle.image.specs.Parts.{imageTagsOf, imageSlotsOf, openAt, defMaskAt, bitsAt, imageWindowOf}
+use Rattle.image.specs.Wrong.{headerWrong, shutNotZero, windowWrong}
+use Rattle.image.specs.Image.{imageOf, imageStateOf}
+use Rattle.image.specs.Entries.{imageVerdictOf}
 use Rattle.image.proofs.Bits.{bits-all}
 use Rattle.image.proofs.Refusals.{image-judged}
+use Rattle.little_endian.proofs.Each.{each-numbers}
 
 or-left : (a b : Bool) → (a || b) ≡ false → a ≡ false
 or-left true b h = h
@@ -59,8 +59,8 @@ window-by (suc (suc n)) d b h =
     cc
 
 window-says : (s : List ℕ) → windowWrong s ≡ false
-    → windowBytes (seen (windowAt s)) ≡ bytesOf 1 (openAt s) ++ bytesOf 2 (defMaskAt s) ++ bytesOf 1 (bitsAt s)
-unfolding windowAt windowWrong shutNotZero
+    → windowBytes (seen (imageWindowOf s)) ≡ bytesOf 1 (openAt s) ++ bytesOf 2 (defMaskAt s) ++ bytesOf 1 (bitsAt s)
+unfolding imageWindowOf windowWrong shutNotZero
 window-says s h = window-by (openAt s) (defMaskAt s) (bitsAt s) h
 
 -- the bytes of an image are its parts, one behind the other
@@ -87,16 +87,16 @@ parts s long =
     (take-all 1288 s (omega arith))
 
 -- the round trip from an accepted image
-pub image-written-again : (s : List ℕ) → Below 256 s → judgedOf s ≡ Accepted → imageOf (stateAt s) ≡ s
-unfolding imageOf windowAt
+pub image-written-again : (s : List ℕ) → Below 256 s → imageVerdictOf s ≡ Accepted → imageOf (imageStateOf s) ≡ s
+unfolding imageOf imageWindowOf
 image-written-again s b accepted =
     let g = image-judged s Accepted .0 accepted in
     let long : length s ≡ 1288 = g .0 in
     let h = header-says s (g .1) in
     let n : (k at : ℕ) → at + k ≤ 1288 → bytesOf k (numberAt k s at) ≡ take k (drop at s) = λ k at i. bytes-number k s at b (omega arith) in
     let header : headerBytes ≡ take 2 (drop 0 s) ++ take 2 (drop 2 s) = rw (← h .0, ← h .1, n 2 0 (omega arith), n 2 2 (omega arith)) in
-    let tags : bytesOfEach 4 (tagsAt s) ≡ take 1024 (drop 4 s) = each-numbers 256 4 s 4 b (omega arith) in
-    let slots : bytesOfEach 1 (slotsAt s) ≡ take 256 (drop 1028 s) = each-numbers 256 1 s 1028 b (omega arith) in
-    let window : windowBytes (seen (windowAt s)) ≡ take 1 (drop 1284 s) ++ take 2 (drop 1285 s) ++ take 1 (drop 1287 s) =
+    let tags : bytesOfEach 4 (imageTagsOf s) ≡ take 1024 (drop 4 s) = each-numbers 256 4 s 4 b (omega arith) in
+    let slots : bytesOfEach 1 (imageSlotsOf s) ≡ take 256 (drop 1028 s) = each-numbers 256 1 s 1028 b (omega arith) in
+    let window : windowBytes (seen (imageWindowOf s)) ≡ take 1 (drop 1284 s) ++ take 2 (drop 1285 s) ++ take 1 (drop 1287 s) =
     window-says s (g .2) ∙ rw (n 1 1284 (omega arith), n 2 1285 (omega arith), n 1 1287 (omega arith)) in
     rw (header, tags, slots, window) (parts s long)

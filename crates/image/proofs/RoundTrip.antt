@@ -7,12 +7,12 @@ use lib.ListN.{length, take, drop}
 use lib.Seq.{take-at}
 use borrow.Author.Tests.{le-ltb}
 use Rattle.little_endian.specs.Numbers.{putAt, Below}
-use Rattle.step.specs.declared.Oep060Timing.{Oep060Timing}
-use Rattle.step.specs.Step.{seenOf}
+use Rattle.state.specs.declared.Oep060Timing.{Oep060Timing}
+use Rattle.state.specs.Timing.{seenOf}
 use Rattle.refusals.specs.declared.Verdict.the-variants.{Accepted}
 use Rattle.image.specs.declared.ImageRead.{ImageRead}
-use Rattle.image.specs.Image.{imageOf, stateAt, InRange}
-use Rattle.image.specs.Entries.{judgedOf, imageWriteOf, imageReadOf}
+use Rattle.image.specs.Image.{imageOf, imageStateOf, InRange}
+use Rattle.image.specs.Entries.{imageVerdictOf, imageWriteOf, imageReadOf}
 use Rattle.image.proofs.Refusals.{image-judged}
 use Rattle.image.proofs.WrittenRead.{image-length, image-read-back}
 use Rattle.image.proofs.ReadWritten.{image-written-again}
@@ -29,8 +29,8 @@ module _ (lent : List ℕ) (room : 1288 ≤ length lent) where
   image-round t r = ap imageReadOf (begins t (image-length t r)) ∙ image-read-back t r
 
   -- an accepted image read and written is the image
-  pub image-again : (s : List ℕ) → Below 256 s → judgedOf s ≡ Accepted → take 1288 (imageWriteOf (imageReadOf s .timing) lent .lent) ≡ s
+  pub image-again : (s : List ℕ) → Below 256 s → imageVerdictOf s ≡ Accepted → take 1288 (imageWriteOf (imageReadOf s .timing) lent .lent) ≡ s
   image-again s b e =
-      let w : imageOf (stateAt s) ≡ s = image-written-again s b e in
-      let long : length (imageOf (stateAt s)) ≡ 1288 = ap length w ∙ image-judged s Accepted .0 e .0 in
-      rw e (begins (stateAt s) long ∙ w)
+      let w : imageOf (imageStateOf s) ≡ s = image-written-again s b e in
+      let long : length (imageOf (imageStateOf s)) ≡ 1288 = ap length w ∙ image-judged s Accepted .0 e .0 in
+      rw e (begins (imageStateOf s) long ∙ w)

@@ -7,14 +7,14 @@ use lib.ListN.{length}
 use borrow.Author.Tests.{le-ltb}
 use Rattle.little_endian.specs.Numbers.{putAt}
 use Rattle.window.specs.Windows.{seen}
-use Rattle.step.specs.declared.Oep060Timing.{Oep060Timing}
+use Rattle.state.specs.declared.Oep060Timing.{Oep060Timing}
 use Rattle.refusals.specs.declared.Verdict.the-variants.{Accepted}
-use Rattle.image_bytes.specs.Bytes.{imageBytes}
+use Rattle.image.specs.Bytes.{imageBytes}
 use Rattle.image.specs.Image.{imageOf}
-use Rattle.image.specs.Entries.{outcome, imageWriteOf}
+use Rattle.image.specs.Entries.{imageOutcome, imageWriteOf}
 
 pub image-written : (t : Oep060Timing) (lent : List ℕ) → 1288 ≤ length lent
     → {d : List ℕ} → d ≡ putAt lent 0 (imageBytes (t .cache .tags) (t .cache .state) (seen (t .window)))
-    → outcome (record { verdict = Accepted; written = 1288 }) d ≡ imageWriteOf t lent
+    → imageOutcome (record { verdict = Accepted; written = 1288 }) d ≡ imageWriteOf t lent
 unfolding imageWriteOf imageOf
 image-written t lent room e = simp (le-ltb _ _ room) (rw e)

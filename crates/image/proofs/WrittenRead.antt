@@ -10,24 +10,23 @@ use lib.Seq.{drop-at}
 use borrow.Author.Tests.{lt-leb}
 use Rattle.bits.specs.Words.{num}
 use Rattle.bits.proofs.Words.{num-small, num-is}
-use Rattle.little_endian.specs.Numbers.{numberAt, bytesOf, Below}
+use Rattle.little_endian.specs.Numbers.{numberAt, bytesOf, Below, bytesOfEach, numbersAt}
 use Rattle.little_endian.proofs.Numbers.{number-behind, number-bytes}
 use Rattle.window.specs.declared.Window.{Window}
 use Rattle.window.specs.Windows.{shut, seen}
-use Rattle.step.specs.declared.Oep060Timing.{Oep060Timing}
-use Rattle.step.specs.Step.{seenOf}
+use Rattle.state.specs.declared.Oep060Timing.{Oep060Timing}
+use Rattle.state.specs.Timing.{seenOf}
 use Rattle.refusals.specs.declared.Verdict.the-variants.{Accepted}
-use Rattle.image_bytes.specs.Bytes.{bytesOfEach, bitsOf, headerBytes, windowBytes}
-use Rattle.image_bytes.proofs.Numbers.{each-length}
-use Rattle.image_bytes.proofs.Writing.{header-length}
-use Rattle.image_state.specs.Parts.{numbersAt, tagsAt, slotsAt, openAt, defMaskAt, bitsAt, windowAt}
-use Rattle.image_state.specs.Wrong.{headerWrong, shutNotZero, windowWrong}
+use Rattle.image.specs.Bytes.{bitsOf, headerBytes, windowBytes}
+use Rattle.image.proofs.ImageBytesWriting.{header-length}
+use Rattle.image.specs.Parts.{imageTagsOf, imageSlotsOf, openAt, defMaskAt, bitsAt, imageWindowOf}
+use Rattle.image.specs.Wrong.{headerWrong, shutNotZero, windowWrong}
 use Rattle.image.specs.declared.ImageRead.{ImageRead}
-use Rattle.image.specs.Image.{imageOf, stateAt, InRange}
-use Rattle.image.specs.Entries.{judgedOf, imageReadOf}
-use Rattle.image.proofs.Numbers.{numbers-drop, numbers-each}
+use Rattle.image.specs.Image.{imageOf, imageStateOf, InRange}
+use Rattle.image.specs.Entries.{imageVerdictOf, imageReadOf}
 use Rattle.image.proofs.Bits.{bits-small, bits-apart}
 use Rattle.image.proofs.Refusals.{image-judged}
+use Rattle.little_endian.proofs.Each.{each-length, numbers-drop, numbers-each}
 
 -- numbers are read where they were put
 numbers-back : (k : ℕ) (xs ns ys : List ℕ) (m n : ℕ) → length xs ≡ m → length ns ≡ n → Below (256 ^ k) ns
@@ -66,8 +65,8 @@ module _ (front : List ℕ) (long : length front ≡ 1284) (w : Window) (small :
       ∙ number-behind 1 (bytesOf 1 (num (w .opened)) ++ bytesOf 2 (w .defs)) (bytesOf 1 (bitsOf w)) 0
       ∙ rw (← append-nil (bytesOf 1 (bitsOf w))) (number-bytes 1 (bitsOf w) [] (omega (arith, bits-small w)))
 
-  window-back : windowAt image ≡ w
-  unfolding windowAt
+  window-back : imageWindowOf image ≡ w
+  unfolding imageWindowOf
   window-back = simp (open-back, mask-back, bits-back, num-is (w .opened), bits-apart w .0, bits-apart w .1, bits-apart w .2)
 
 -- open, def mask and bits of a window as it is read are right
@@ -118,21 +117,21 @@ module _ (t : Oep060Timing) (r : InRange t) where
       go true = r .mask
       go false = omega arith
 
-  image-accepted : judgedOf (imageOf t) ≡ Accepted
+  image-accepted : imageVerdictOf (imageOf t) ≡ Accepted
   unfolding imageOf
   image-accepted = image-judged (imageOf t) Accepted .1 (image-length, header-right, window-right front before-window (t .window) (r .mask))
 
-  tags-back : tagsAt (imageOf t) ≡ t .cache .tags
+  tags-back : imageTagsOf (imageOf t) ≡ t .cache .tags
   unfolding imageOf
   tags-back =
       rw (append-assoc (headerBytes ++ bytesOfEach 4 (t .cache .tags)) (bytesOfEach 1 (t .cache .state)) (windowBytes (seen (t .window))))
       (numbers-back 4 headerBytes (t .cache .tags) (bytesOfEach 1 (t .cache .state) ++ windowBytes (seen (t .window))) 4 256 header-length (r .tags .0) (r .tags .1))
 
-  slots-back : slotsAt (imageOf t) ≡ t .cache .state
+  slots-back : imageSlotsOf (imageOf t) ≡ t .cache .state
   unfolding imageOf
   slots-back = numbers-back 1 (headerBytes ++ bytesOfEach 4 (t .cache .tags)) (t .cache .state) (windowBytes (seen (t .window))) 1028 256 before-slots (r .slots .0) (r .slots .1)
 
-  state-back : stateAt (imageOf t) ≡ seenOf t
+  state-back : imageStateOf (imageOf t) ≡ seenOf t
   unfolding imageOf
   state-back = rw (tags-back, slots-back, window-back front before-window (seen (t .window)) seen-small)
 

@@ -1,14 +1,17 @@
--- Document 01, "Records and images": which images are refused, in the order of the table, and what image writing and image reading give.
--- The Rust has none.
+-- Document 01, "Records and images": which images are refused, in the order of the table, and what image writing and
+-- image reading give. The Rust has none.
 --
---   judgedOf s            ==  the verdict on an image                    "Image reading: 8, 9, 10"; no row looks at tags or slots: "All slot bytes
---                                                                        are accepted"
---   Outcome, outcome r l  ==  what is returned, r, together with every lent byte afterwards, l
---   imageWriteOf t lent   ==  the whole outcome of image writing         "under .. 1,288 bytes an image"; "Image writing answers 1,288 bytes
---                                                                        written, or 0 if refused"; what lies beyond the image stays, and all
---                                                                        lent bytes where it is refused
---   timingBy v s          ==  the state that is read                     "Refused image reading returns a fresh state (zeros, window shut)"
---   imageReadOf s         ==  the whole answer of image reading
+--   imageVerdictOf s                ==  the verdict on an image
+--                                       "Image reading: 8, 9, 10"; no row looks at tags or slots: "All slot bytes are
+--                                       accepted"
+--   ImageOutcome, imageOutcome r l  ==  what is returned, r, together with every lent byte afterwards, l
+--   imageWriteOf t lent             ==  the whole outcome of image writing
+--                                       "under .. 1,288 bytes an image"; "Image writing answers 1,288 bytes written, or
+--                                       0 if refused"; what lies beyond the image stays, and all lent bytes where it is
+--                                       refused
+--   imageTimingBy v s               ==  the state that is read
+--                                       "Refused image reading returns a fresh state (zeros, window shut)"
+--   imageReadOf s                   ==  the whole answer of image reading
 use Prim.Native.Nat.{ℕ}
 use mathlib.Core.Bool.{not}
 use mathlib.Core.List.{List}
@@ -16,40 +19,41 @@ use lib.Dec.{eqb, ltb}
 use lib.ListN.{length}
 use Rattle.bits.specs.Rows.{otherwise, _⇒_⨾_, first}
 use Rattle.little_endian.specs.Numbers.{putAt}
-use Rattle.step.specs.declared.Oep060Timing.{Oep060Timing}
-use Rattle.step.specs.Step.{freshOf}
+use Rattle.state.specs.declared.Oep060Timing.{Oep060Timing}
+use Rattle.state.specs.Timing.{freshOf}
 use Rattle.refusals.specs.declared.Refusal.the-variants.{Room, ImageLength, ImageHeader, ImageWindow}
 use Rattle.refusals.specs.declared.Verdict.{Verdict}
 use Rattle.refusals.specs.declared.Verdict.the-variants.{Accepted, Refused}
-use Rattle.image_state.specs.Wrong.{headerWrong, windowWrong}
+use Rattle.image.specs.Wrong.{headerWrong, windowWrong}
 use Rattle.image.specs.declared.ImageWritten.{ImageWritten}
 use Rattle.image.specs.declared.ImageRead.{ImageRead}
-use Rattle.image.specs.Image.{imageOf, stateAt}
+use Rattle.image.specs.Image.{imageOf, imageStateOf}
+use Rattle.image.specs.ImageLayout.{imageLength}
 
-unfoldable pub judgedOf : List ℕ → Verdict
-judgedOf s =
+unfoldable pub imageVerdictOf : List ℕ → Verdict
+imageVerdictOf s =
     first
-    (not (eqb (length s) 1288) ⇒ Refused ImageLength
+    (not (eqb (length s) imageLength) ⇒ Refused ImageLength
     ⨾ headerWrong s ⇒ Refused ImageHeader
     ⨾ windowWrong s ⇒ Refused ImageWindow
     ⨾ otherwise Accepted)
 
-pub record Outcome : Type 0 where
+pub record ImageOutcome : Type 0 where
   pub answer : ImageWritten
   pub lent : List ℕ
 
-abbrev pub outcome : ImageWritten → List ℕ → Outcome
-outcome r lent = record { answer = r; lent = lent }
+abbrev pub imageOutcome : ImageWritten → List ℕ → ImageOutcome
+imageOutcome r lent = record { answer = r; lent = lent }
 
-unfoldable pub imageWriteOf : Oep060Timing → List ℕ → Outcome
+unfoldable pub imageWriteOf : Oep060Timing → List ℕ → ImageOutcome
 imageWriteOf t lent =
     first
-    (ltb (length lent) 1288 ⇒ outcome (record { verdict = Refused (Room 0); written = 0 }) lent
-    ⨾ otherwise (outcome (record { verdict = Accepted; written = 1288 }) (putAt lent 0 (imageOf t))))
+    (ltb (length lent) imageLength ⇒ imageOutcome (record { verdict = Refused (Room 0); written = 0 }) lent
+    ⨾ otherwise (imageOutcome (record { verdict = Accepted; written = imageLength }) (putAt lent 0 (imageOf t))))
 
-abbrev pub timingBy : Verdict → List ℕ → Oep060Timing
-timingBy Accepted s = stateAt s
-timingBy (Refused refusal) s = freshOf
+abbrev pub imageTimingBy : Verdict → List ℕ → Oep060Timing
+imageTimingBy Accepted s = imageStateOf s
+imageTimingBy (Refused refusal) s = freshOf
 
 abbrev pub imageReadOf : List ℕ → ImageRead
-imageReadOf s = record { verdict = judgedOf s; timing = timingBy (judgedOf s) s }
+imageReadOf s = record { verdict = imageVerdictOf s; timing = imageTimingBy (imageVerdictOf s) s }

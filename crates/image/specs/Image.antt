@@ -1,27 +1,29 @@
--- Document 01, "Records and images": "The image is kind 16, payload 1,284: 256 tags, 256 bytes, then open (0 or 1), def mask 2, bits (0 CCR,
--- 1 memory, 2 cached)." Its parts are in image_bytes (as bytes) and image_state (read). The Rust has none.
+-- Document 01, "Records and images": "The image is kind 16, payload 1,284: 256 tags, 256 bytes, then open (0 or 1), def
+-- mask 2, bits (0 CCR, 1 memory, 2 cached)." Its parts as bytes are in Bytes, and as they are read in Parts. The Rust
+-- has none.
 --
---   imageOf t          ==  the image of the state t: header, tags of 4 bytes, slots of 1 byte, and the window as it is read
---                                                                       "A shut window has zeros. A state handed in shut with other window
---                                                                       fields set is read, and handed back, as if they were zero"
---   stateAt s          ==  the state of the image s
+--   imageOf t       ==  the image of the state t: header, tags of 4 bytes, slots of 1 byte, and the window as it is
+--                       read
+--                       "A shut window has zeros. A state handed in shut with other window fields set is read, and
+--                       handed back, as if they were zero"
+--   imageStateOf s  ==  the state of the image s
 -- What the types of the code hold always:
---   InRange t          ==  256 tags below 2^32, 256 slots' bytes below 2^8, and a def mask below 2^16
+--   InRange t       ==  256 tags below 2^32, 256 slots' bytes below 2^8, and a def mask below 2^16
 use Prim.Native.Nat.{ℕ, _^_, _<_}
 use mathlib.Core.Path.{_≡_}
 use mathlib.Core.List.{List}
 use lib.ListN.{length}
 use Rattle.little_endian.specs.Numbers.{Below}
 use Rattle.window.specs.Windows.{seen}
-use Rattle.step.specs.declared.Oep060Timing.{Oep060Timing}
-use Rattle.image_bytes.specs.Bytes.{imageBytes}
-use Rattle.image_state.specs.Parts.{tagsAt, slotsAt, windowAt}
+use Rattle.state.specs.declared.Oep060Timing.{Oep060Timing}
+use Rattle.image.specs.Bytes.{imageBytes}
+use Rattle.image.specs.Parts.{imageTagsOf, imageSlotsOf, imageWindowOf}
 
 unfoldable pub imageOf : Oep060Timing → List ℕ
 imageOf t = imageBytes (t .cache .tags) (t .cache .state) (seen (t .window))
 
-abbrev pub stateAt : List ℕ → Oep060Timing
-stateAt s = record { cache = record { tags = tagsAt s; state = slotsAt s }; window = windowAt s }
+abbrev pub imageStateOf : List ℕ → Oep060Timing
+imageStateOf s = record { cache = record { tags = imageTagsOf s; state = imageSlotsOf s }; window = imageWindowOf s }
 
 pub record InRange (t : Oep060Timing) : Type 0 where
   pub tags : (length (t .cache .tags) ≡ 256) × Below (2 ^ 32) (t .cache .tags)

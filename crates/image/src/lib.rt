@@ -1,15 +1,38 @@
 // Part 6 of document 01: the state as bytes.
+//
+// Here are the places of an image's parts and the two entries: `image_write` looks at the room and has `write` put each
+// part; `image_read` judges the bytes in the order of the table and has `read` take each part. `host` and `replaying`
+// call the two.
+mod read;
+mod write;
+
 ghost use mathlib.Core.Path.{_≡_};
 ghost use Prim.Native.Nat.{_≤_};
 ghost use lib.ListN.{length};
-ghost use Rattle.image.specs.Image.{stateAt};
-ghost use Rattle.image.specs.Entries.{judgedOf, outcome, imageWriteOf, imageReadOf};
+ghost use Rattle.image.specs.Image.{imageStateOf};
+ghost use Rattle.image.specs.Entries.{imageVerdictOf, imageOutcome, imageWriteOf, imageReadOf};
+ghost use Rattle.image.specs.ImageLayout.{imageLength};
 use branch_cache::BranchCache060;
 use refusals::Refusal;
 use refusals::Verdict;
-use step::Oep060Timing;
+use state::Oep060Timing;
 
 pub const IMAGE_LENGTH: usize = 1288;
+
+const PAYLOAD: u16 = 1284;
+
+const KIND: u16 = 16;
+
+// Where the parts of an image start.
+const TAGS: usize = 4;
+
+const SLOTS: usize = 1028;
+
+const OPENED: usize = 1284;
+
+const DEFS: usize = 1285;
+
+const BITS: usize = 1287;
 
 // What image writing answers.
 pub struct ImageWritten {
@@ -26,7 +49,7 @@ pub struct ImageRead {
 
 // The image of a state in lent bytes; those beyond it stay.
 pub fn image_write(timing: Oep060Timing, out: &mut [u8]) -> ImageWritten
-    ensures { λ r. ⌜ outcome r (now (out .exit)) ≡ imageWriteOf timing (now (out .entry)) ⌝ }
+    ensures { λ r. ⌜ imageOutcome r (now (out .exit)) ≡ imageWriteOf timing (now (out .entry)) ⌝ }
 {
     if out.len() < IMAGE_LENGTH {
         return ImageWritten {
@@ -36,7 +59,7 @@ pub fn image_write(timing: Oep060Timing, out: &mut [u8]) -> ImageWritten
     }
     let tags = timing.cache.tags;
     let slots = timing.cache.state;
-    image_bytes::put_image(tags, slots, timing.window, out);
+    write::put_image(tags, slots, timing.window, out);
     ImageWritten {
         verdict: Verdict::Accepted,
         written: IMAGE_LENGTH,
@@ -44,29 +67,29 @@ pub fn image_write(timing: Oep060Timing, out: &mut [u8]) -> ImageWritten
 }
 
 // The first refusal of the table that holds.
-fn judged(bytes: &[u8]) -> Verdict
-    ensures { λ r. ⌜ r ≡ judgedOf (now (bytes .entry)) ⌝ }
+fn image_verdict(bytes: &[u8]) -> Verdict
+    ensures { λ r. ⌜ r ≡ imageVerdictOf (now (bytes .entry)) ⌝ }
 {
     if bytes.len() != IMAGE_LENGTH {
         return Verdict::Refused(Refusal::ImageLength);
     }
-    if image_state::header_wrong(bytes) {
+    if read::header_wrong(bytes) {
         return Verdict::Refused(Refusal::ImageHeader);
     }
-    if image_state::window_wrong(bytes) {
+    if read::window_wrong(bytes) {
         return Verdict::Refused(Refusal::ImageWindow);
     }
     Verdict::Accepted
 }
 
-fn state_at(bytes: &[u8]) -> Oep060Timing
-    requires { ⌜ 1288 ≤ length (now bytes) ⌝ }
-    ensures { λ r. ⌜ r ≡ stateAt (now (bytes .entry)) ⌝ }
+fn image_state(bytes: &[u8]) -> Oep060Timing
+    requires { ⌜ imageLength ≤ length (now bytes) ⌝ }
+    ensures { λ r. ⌜ r ≡ imageStateOf (now (bytes .entry)) ⌝ }
 {
-    let tags = image_state::tags_at(bytes);
-    let state = image_state::slots_at(bytes);
+    let tags = read::image_tags(bytes);
+    let state = read::image_slots(bytes);
     let cache = BranchCache060 { tags, state };
-    let window = image_state::window_at(bytes);
+    let window = read::image_window(bytes);
     Oep060Timing { cache, window }
 }
 
@@ -74,9 +97,9 @@ fn state_at(bytes: &[u8]) -> Oep060Timing
 pub fn image_read(bytes: &[u8]) -> ImageRead
     ensures { λ r. ⌜ r ≡ imageReadOf (now (bytes .entry)) ⌝ }
 {
-    let verdict = judged(bytes);
+    let verdict = image_verdict(bytes);
     let timing = match verdict {
-        Verdict::Accepted => state_at(bytes),
+        Verdict::Accepted => image_state(bytes),
         Verdict::Refused(_) => Oep060Timing::fresh(),
     };
     ImageRead { verdict, timing }

@@ -3,22 +3,22 @@
 use mathlib.Core.Path.{_≡_, sym, ap, _∙_}
 use mathlib.Core.List.{List}
 use Prim.Native.Nat.{ℕ}
-use Rattle.class_word.specs.Word.{clocks}
+use Rattle.class_word.specs.declared.Clocks.{Clocks}
 use Rattle.window.specs.declared.Window.{Window}
-use Rattle.step.specs.declared.Retirement.{Retirement}
-use Rattle.step.specs.declared.Stepped.{Stepped}
-use Rattle.step.specs.Step.{timingAt}
-use Rattle.board.specs.Crate.{steppedOf}
-use Rattle.numbers.specs.Windows.{windowAt, numbersOf}
-use Rattle.by_numbers.specs.Lent.{Lent, lent, stateAt}
-use Rattle.numbers.proofs.Held.{window-held}
+use Rattle.state.specs.declared.Retirement.{Retirement}
+use Rattle.state.specs.declared.Stepped.{Stepped}
+use Rattle.state.specs.Timing.{timingAt}
+use Rattle.step.specs.CrateBoard.{steppedOf}
+use Rattle.in_place.specs.WindowNumbers.{windowAt, numbersOf}
+use Rattle.in_place.specs.Lent.{Lent, lent, stateAt}
+use Rattle.in_place.proofs.NumbersHeld.{window-held}
 use Rattle.in_place.specs.Retire.{Paid, paid, retireAtOf}
 
 -- what a retirement costs and the state that it leaves, from the numbers that it leaves
-abbrev pub steppedAt : List ℕ → List ℕ → List ℕ → ℕ → Stepped
-steppedAt ts bs ns cost = record { timing = timingAt ts bs (windowAt ns); cost = clocks cost }
+abbrev pub steppedAt : List ℕ → List ℕ → List ℕ → Clocks → Stepped
+steppedAt ts bs ns cost = record { timing = timingAt ts bs (windowAt ns); cost = cost }
 
-pub stepped-held : (l : Lent) (r : Retirement) {ts bs ns : List ℕ} {cost : ℕ} → paid cost (lent ts bs ns) ≡ retireAtOf l r
+pub stepped-held : (l : Lent) (r : Retirement) {ts bs ns : List ℕ} {cost : Clocks} → paid cost (lent ts bs ns) ≡ retireAtOf l r
     → steppedAt ts bs ns cost ≡ steppedOf (stateAt l) r
 stepped-held l r e =
     let s = steppedOf (stateAt l) r in
@@ -26,7 +26,7 @@ stepped-held l r e =
     ∙ ap (λ (w : Window). record { timing = timingAt (s .timing .cache .tags) (s .timing .cache .state) w; cost = s .cost }) (window-held (s .timing .window))
 
 -- the numbers that it leaves are those of a window
-pub window-plain : (l : Lent) (r : Retirement) {ts bs ns : List ℕ} {cost : ℕ} → paid cost (lent ts bs ns) ≡ retireAtOf l r → numbersOf (windowAt ns) ≡ ns
+pub window-plain : (l : Lent) (r : Retirement) {ts bs ns : List ℕ} {cost : Clocks} → paid cost (lent ts bs ns) ≡ retireAtOf l r → numbersOf (windowAt ns) ≡ ns
 window-plain l r e =
     let s = steppedOf (stateAt l) r in
     let q = ap (λ (p : Paid). p .lent .window) e in

@@ -1,2 +1,4 @@
 pub mod Paying
 pub mod Held
+pub mod NumbersHeld
+mod Asking

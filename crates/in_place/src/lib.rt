@@ -1,55 +1,100 @@
-// One retirement in place, on lent numbers: the one step that runs, batches and hosts share.
-ghost use mathlib.Core.Path.{_≡_};
-ghost use Rattle.by_numbers.specs.Lent.{lent};
-ghost use Rattle.payload.specs.Passed.{retirementOf};
-ghost use Rattle.in_place.specs.Retire.{paid, retireAtOf};
-use class_word::F_BRANCH;
-use step::Retirement;
+// Part 5 of document 01, fast: one retirement, and any event, on the numbers that are lent for a state.
+//
+// `windows` has the window as numbers, `by_numbers` a whole state, `ask` the branch cache asked in place, and `events`
+// breaks and clears. The step here equals the one by value (`step`): both are the definition's. It carries no state,
+// stores at most one slot, and runs and hosts share it.
+mod ask;
+mod by_numbers;
+mod events;
+mod windows;
 
-// One retirement of these numbers: its clocks.
-pub fn retire_at(
+pub use by_numbers::timing_at;
+pub use events::Happened;
+pub use events::clear_all_at;
+pub use events::clear_user_at;
+pub use events::event_at;
+pub use windows::WINDOW_NUMBERS;
+pub use windows::WindowNumbers;
+pub use windows::put_window;
+pub use windows::see_window;
+pub use windows::shut_window;
+pub use windows::window_at;
+ghost use mathlib.Core.Path.{_≡_};
+ghost use Rattle.state.specs.Flags.{retirementOf};
+ghost use Rattle.in_place.specs.Lent.{lent};
+ghost use Rattle.in_place.specs.Retire.{paid, retireAtOf};
+ghost use Rattle.class_word.specs.Word.{clocks};
+ghost use Rattle.window.specs.Raw.{rawCount};
+use class_word::Clocks;
+use class_word::F_BRANCH;
+use state::Retirement;
+use window::RawCount;
+
+// The step.
+fn retire(
     tags: &mut [u32; 256],
     state: &mut [u8; 256],
-    window: &mut [u16; 5],
+    window: &mut WindowNumbers,
+    op: u16,
+    flags: u16,
+    ppc: u32,
+    pc: u32,
+    raw: RawCount,
+) -> Clocks
+    ensures { λ r. ⌜ paid r (lent (now (tags .exit)) (now (state .exit)) (now (window .exit)))
+        ≡ retireAtOf (lent (now (tags .entry)) (now (state .entry)) (now (window .entry)))
+        (retirementOf op flags ppc pc raw) ⌝ }
+{
+    let k = state::controls_of(flags, ppc, pc, raw);
+    let i = profile::instruction_060(op);
+    if i.word.has(F_BRANCH) { // only a branch asks the cache
+        let answer = ask::ask_in_place(tags, state, i, k);
+        let w = window_at(*window);
+        shut_window(window);
+        return cost::charge_branch(i, k, w.opened, answer);
+    }
+    let w = window_at(*window);
+    let charged = cost::charge_other(i, k, w);
+    let clocks = charged.cost;
+    if charged.heads {
+        windows::put_head(window, i, k);
+    } else {
+        shut_window(window);
+    }
+    clocks
+}
+
+// One retirement of these numbers: its clocks. The step is large and stays a call, and a C function's numbers go
+// through it in registers, where structs would go through memory.
+#[no_mangle]
+pub extern "C" fn retire_at(
+    tags: &mut [u32; 256],
+    state: &mut [u8; 256],
+    window: &mut WindowNumbers,
     op: u16,
     flags: u16,
     ppc: u32,
     pc: u32,
     raw: i32,
 ) -> u32
-    ensures { λ r. ⌜ paid r (lent (now (tags .exit)) (now (state .exit)) (now (window .exit)))
-        ≡ retireAtOf (lent (now (tags .entry)) (now (state .entry)) (now (window .entry))) (retirementOf op flags ppc pc raw) ⌝ }
+    ensures { λ r. ⌜ paid (clocks r) (lent (now (tags .exit)) (now (state .exit)) (now (window .exit)))
+        ≡ retireAtOf (lent (now (tags .entry)) (now (state .entry)) (now (window .entry)))
+        (retirementOf op flags ppc pc (rawCount raw)) ⌝ }
 {
-    let k = flags::controls_of(flags, ppc, pc, raw);
-    let i = profile::instruction_060(op);
-    if i.word.has(F_BRANCH) { // only a branch asks the cache
-        let answer = asking::ask_in_place(tags, state, i, k);
-        let w = numbers::window_at(*window);
-        *window = [0; 5];
-        return branching::charge_branch(i, k, w.opened, answer).0;
-    }
-    let w = numbers::window_at(*window);
-    let charged = pairing::charge_other(i, k, w);
-    if charged.heads {
-        numbers::put_head(window, i, k);
-    } else {
-        *window = [0; 5];
-    }
-    charged.cost.0
+    retire(tags, state, window, op, flags, ppc, pc, RawCount(raw)).0
 }
 
-// The same for a caller that has the retirement as a struct; its flags pass as one number, since a large function stays a call.
+// The same for a caller that has the retirement as a struct.
 pub fn retire_in_place(
     tags: &mut [u32; 256],
     state: &mut [u8; 256],
-    window: &mut [u16; 5],
+    window: &mut WindowNumbers,
     r: Retirement,
-) -> u32
+) -> Clocks
     ensures { λ o. ⌜ paid o (lent (now (tags .exit)) (now (state .exit)) (now (window .exit)))
         ≡ retireAtOf (lent (now (tags .entry)) (now (state .entry)) (now (window .entry))) r ⌝ }
 {
     let k = r.controls;
-    let flags = flags::flags_of(k);
-    let raw = k.raw.0;
-    retire_at(tags, state, window, r.op, flags, k.ppc, k.pc, raw)
+    let flags = state::control_flags(k);
+    Clocks(retire_at(tags, state, window, r.op, flags, k.ppc, k.pc, k.raw.0))
 }

@@ -1,4 +1,6 @@
-// Standard input, whole.
+// Standard input, whole: what the cost lister and the replay read before they work.
+//
+// `read_input` is all there is. A program lends one byte more than it takes, so that longer input is seen to be longer.
 ghost use lib.ListN.{length};
 ghost use Rattle.input.specs.Input.{Within};
 use libc::STDIN_FILENO;

@@ -1,7 +1,10 @@
-// The cost lister's own limit: what it prints of 65,536 bytes, which it takes, and of 65,537, which it refuses. The bytes are breaks.
+// The cost lister's own limit: what it prints of 65,536 bytes, which it takes, and of 65,537, which it refuses. The
+// bytes are breaks.
+//
+// `list_trace` of `listing` is called twice, as the cost lister calls it.
 use libc::STDOUT_FILENO;
 use listing::LISTING_ROOM;
-use step::Oep060Timing;
+use state::Oep060Timing;
 
 // The byte at a place of a trace of breaks: length 0, kind 2.
 fn break_at(i: usize) -> u8 {

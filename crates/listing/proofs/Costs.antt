@@ -10,30 +10,29 @@ use lib.ListN.{length, length-append, drop}
 use lib.Seq.{drop-drop, drop-at}
 use mir.Syntax.{w32}
 use mir.Val.{SFits}
-use Rattle.little_endian.specs.Numbers.{numberAt, bytesOf}
+use Rattle.little_endian.specs.Numbers.{numberAt, bytesOf, bytesOfEach}
 use Rattle.little_endian.proofs.Numbers.{number-drop, number-bytes, bytes-length}
 use Rattle.class_word.specs.Word.{has, DBCC, «EA_INDEXED»}
-use Rattle.dispatch.specs.declared.Instruction.{Instruction}
-use Rattle.dispatch.specs.declared.Controls.{Controls}
+use Rattle.window.specs.declared.dispatch.Instruction.{Instruction}
+use Rattle.window.specs.declared.dispatch.Controls.{Controls}
 use Rattle.window.specs.declared.Window.{Window}
-use Rattle.branching.specs.declared.Answer.{Answer}
-use Rattle.branching.specs.declared.Answer.the-variants.{NotConsulted, Miss, PredictedNotTaken, PredictedTaken}
-use Rattle.pairing.specs.Retiring.{Retiring, Kind, branch, flow, neither, kindOf}
-use Rattle.branching.specs.Branch.{takenOf, askedCost, branchCost}
-use Rattle.pairing.specs.Cost.{baseOf, pairs, costBy, costOf}
-use Rattle.raw.proofs.Raw.{fallback-most}
-use Rattle.pairing.proofs.Largest.{plain-most}
-use Rattle.step.specs.declared.Event.{Event}
-use Rattle.step.specs.declared.Event.the-variants.{Retired, Broken, ClearedAll, ClearedUser}
-use Rattle.step.specs.Events.{State, retiringOf, after, retirements, costs, total}
-use Rattle.step.specs.Crate.{crateCache}
-use Rattle.board.specs.Crate.{crateBoard}
-use Rattle.records.specs.Trace.{countOf}
+use Rattle.cost.specs.declared.branch.Answer.{Answer}
+use Rattle.cost.specs.declared.branch.Answer.the-variants.{NotConsulted, Miss, PredictedNotTaken, PredictedTaken}
+use Rattle.cost.specs.Retiring.{Retiring, Point, branch, flow, neither, pointOf}
+use Rattle.cost.specs.Branch.{takenOf, askedCost, branchCost}
+use Rattle.cost.specs.Cost.{baseOf, pairs, costBy, costOf}
+use Rattle.window.proofs.RawLaws.{fallback-most}
+use Rattle.cost.proofs.Largest.{plain-most}
+use Rattle.state.specs.declared.Event.{Event}
+use Rattle.state.specs.declared.Event.the-variants.{Retired, Broken, ClearedAll, ClearedUser}
+use Rattle.state.specs.Events.{State, retiringOf, after, retirements, costs, total, countOf}
+use Rattle.state.specs.CrateCache.{crateCache}
+use Rattle.step.specs.CrateBoard.{crateBoard}
 use Rattle.trace.specs.Run.{costBytes}
-use Rattle.record.proofs.Choices.{by-test}
-use Rattle.lines.specs.Lines.{opcodesOf, linesFrom, retirementLine}
-use Rattle.table.specs.Printed.{linesRead}
-use Rattle.lines.proofs.Lengths.{line-most}
+use Rattle.records.proofs.Choices.{by-test}
+use Rattle.listing.specs.Lines.{opcodesOf, linesFrom, retirementLine}
+use Rattle.listing.specs.Printed.{linesRead}
+use Rattle.listing.proofs.Lengths.{line-most}
 use Rattle.listing.proofs.Reading.{Raws}
 
 asked-most : (predicted taken opened : Bool) → askedCost predicted taken opened ≤ 7
@@ -58,16 +57,16 @@ base-most i k h =
     let p = plain-most (i .word .0) (k .raw .0) h in
     omega (arith, by-test (λ (n : ℕ). n ≤ 1) (has (i .word .0) «EA_INDEXED») 1 0 (λ _. omega arith) (λ _. omega arith))
 
-cost-by : (kind : Kind) (i : Instruction) (k : Controls) (w : Window) (a : Answer) → SFits w32 (k .raw .0) → costBy kind i k w a ≤ 536870912
+cost-by : (kind : Point) (i : Instruction) (k : Controls) (w : Window) (a : Answer) → SFits w32 (k .raw .0) → costBy kind i k w a ≤ 536870912
 cost-by branch i k w a h = omega (arith, branch-most (has (i .word .0) DBCC) (takenOf i k) (w .opened) a)
 cost-by flow i k w a h = omega (arith, fallback-most (k .raw .0) h)
 cost-by neither i k w a h =
     let b = base-most i k h in
     by-test (λ (n : ℕ). n ≤ 536870912) (pairs i k w) _ _ (λ _. omega arith) (λ _. b)
 
-cost-most : (r : Retiring) → SFits w32 (r .controls .raw .0) → costOf r ≤ 536870912
+pub cost-most : (r : Retiring) → SFits w32 (r .controls .raw .0) → costOf r ≤ 536870912
 unfolding costOf
-cost-most r h = cost-by (kindOf (r .instruction) (r .controls)) (r .instruction) (r .controls) (r .window) (r .answer) h
+cost-most r h = cost-by (pointOf (r .instruction) (r .controls)) (r .instruction) (r .controls) (r .window) (r .answer) h
 
 -- the number that stands in front of what is left of the bytes
 front : (i n : ℕ) (bytes rest : List ℕ) → drop (4 * i) bytes ≡ bytesOf 4 n ++ rest → n < 256 ^ 4 → numberAt 4 bytes (4 * i) ≡ n
@@ -83,7 +82,7 @@ behind i n bytes rest e =
 pub lines-costs : (i : ℕ) (bytes rest : List ℕ) (s : State crateCache) (es : List Event) → Raws es
     → drop (4 * i) bytes ≡ costBytes (costs crateBoard s es) ++ rest
     → linesRead i bytes es ≡ linesFrom i (opcodesOf es) (costs crateBoard s es)
-unfolding linesFrom retirements
+unfolding linesFrom retirements bytesOfEach
 lines-costs i bytes rest s [] w e = refl
 lines-costs i bytes rest s (Retired r ∷ es) w e =
     let n : ℕ = costOf (retiringOf crateBoard s r) in

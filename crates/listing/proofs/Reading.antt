@@ -10,25 +10,26 @@ use lib.ListN.{length}
 use mir.Syntax.{w32}
 use mir.Val.{SFits}
 use borrow.Author.Tests.{ltb-true, ltb-false}
-use Rattle.signed.specs.Signed.{signedOf}
-use Rattle.step.specs.declared.Event.{Event}
-use Rattle.step.specs.declared.Event.the-variants.{Retired, Broken, ClearedAll, ClearedUser}
-use Rattle.kinds.specs.declared.Kind.{Kind}
-use Rattle.kinds.specs.declared.Kind.the-variants.{Retirement, Break, ClearAll, ClearUser}
-use Rattle.kinds.specs.declared.KindRead.{KindRead}
-use Rattle.kinds.specs.declared.KindRead.the-variants.{Known, Unknown}
-use Rattle.record.specs.declared.Read.{Read}
-use Rattle.record.specs.declared.Read.the-variants.{Got, Bad, End}
-use Rattle.kinds.specs.Kinds.{kindOf}
+use Rattle.little_endian.specs.Signed.{signedOf}
+use Rattle.state.specs.declared.Event.{Event}
+use Rattle.state.specs.declared.Event.the-variants.{Retired, Broken, ClearedAll, ClearedUser}
+use Rattle.records.specs.declared.kinds.Kind.{Kind}
+use Rattle.records.specs.declared.kinds.Kind.the-variants.{Retirement, Break, ClearAll, ClearUser}
+use Rattle.records.specs.declared.kinds.KindRead.{KindRead}
+use Rattle.records.specs.declared.kinds.KindRead.the-variants.{Known, Unknown}
+use Rattle.records.specs.declared.record.Read.{Read}
+use Rattle.records.specs.declared.record.Read.the-variants.{Got, Bad, End}
+use Rattle.records.specs.Kinds.{kindOf}
 use Rattle.refusals.specs.declared.Verdict.{Verdict}
 use Rattle.refusals.specs.declared.Verdict.the-variants.{Accepted, Refused}
-use Rattle.faults.specs.Faults.{nextPlace, faultAt}
-use Rattle.payload.specs.Payload.{retirementAt}
-use Rattle.record.specs.Record.{remaining, kindAt, eventAt, takenBy, recordAt, bodyAt, readAt}
-use Rattle.records.specs.Trace.{Trace, events, refused, ahead, goOn, readIn, readFrom, readTrace, countOf}
-use Rattle.record.proofs.Choices.{by-test}
+use Rattle.records.specs.Faults.{nextPlace, faultAt}
+use Rattle.records.specs.Layout.{retirementAt, kindAt}
+use Rattle.records.specs.Record.{remaining, eventAt, takenBy, recordAt, bodyAt, readAt}
+use Rattle.records.specs.Trace.{Trace, events, refused, ahead, goOn, readIn, readFrom, readTrace}
+use Rattle.records.proofs.Choices.{by-test}
 use Rattle.records.proofs.Walking.{got-within}
 use Rattle.records.proofs.Counting.{count-cons, count-one}
+use Rattle.state.specs.Events.{countOf}
 
 signed-fits : (x : ℕ) → SFits w32 (signedOf x)
 unfolding signedOf

@@ -11,15 +11,15 @@ use lib.ListN.{length}
 use borrow.Author.Tests.{ltb-true, ltb-false}
 use Rattle.text.specs.Written.{written, writtenOf}
 use Rattle.text.proofs.Writing.{written-within}
-use Rattle.step.specs.declared.Event.{Event}
-use Rattle.step.specs.declared.Oep060Timing.{Oep060Timing}
+use Rattle.state.specs.declared.Event.{Event}
+use Rattle.state.specs.declared.Oep060Timing.{Oep060Timing}
 use Rattle.records.specs.Trace.{Trace, events}
 use Rattle.listing.specs.declared.Listed.{Listed}
-use Rattle.listing.specs.Listing.{Outcome, judgedOf, tableOf, textBy, outcome, outcomeBy}
+use Rattle.listing.specs.Listing.{ListingOutcome, shortTraceOf, tableOf, textBy, listingOutcome, listingOutcomeBy}
 use Rattle.listing.proofs.Listing.{judged-large, text-most}
 
 -- only a trace within the limit is accepted
-pub text-fits : (trace : List ℕ) (t : Oep060Timing) {es : List Event} → judgedOf trace ≡ events es → length (tableOf es t) ≤ 65588
+pub text-fits : (trace : List ℕ) (t : Oep060Timing) {es : List Event} → shortTraceOf trace ≡ events es → length (tableOf es t) ≤ 65588
 text-fits trace t {es} e = go (ltb 65536 (length trace)) refl
   where
     go : (b : Bool) → ltb 65536 (length trace) ≡ b → length (tableOf es t) ≤ 65588
@@ -29,13 +29,13 @@ text-fits trace t {es} e = go (ltb 65536 (length trace)) refl
         absurd (omega arith)
     go false q = text-most trace (ltb-false 65536 (length trace) q) t e
 
-pub listed-text : (said : Trace) (out : List ℕ) (t : Oep060Timing) {r : Listed} {after : List ℕ} → outcome r after ≡ outcomeBy said out t
+pub listed-text : (said : Trace) (out : List ℕ) (t : Oep060Timing) {r : Listed} {after : List ℕ} → listingOutcome r after ≡ listingOutcomeBy said out t
     → written (r .len) after ≡ writtenOf out 0 (textBy said t)
 unfolding writtenOf
-listed-text said out t e = rw (ap (λ (o : Outcome). o .answer .len) e, ap (λ (o : Outcome). o .lent) e, zero-add (length (textBy said t)))
+listed-text said out t e = rw (ap (λ (o : ListingOutcome). o .answer .len) e, ap (λ (o : ListingOutcome). o .lent) e, zero-add (length (textBy said t)))
 
 -- the text lies within the lent bytes
-pub listed-within : (said : Trace) (out : List ℕ) (t : Oep060Timing) {r : Listed} {after : List ℕ} → outcome r after ≡ outcomeBy said out t
+pub listed-within : (said : Trace) (out : List ℕ) (t : Oep060Timing) {r : Listed} {after : List ℕ} → listingOutcome r after ≡ listingOutcomeBy said out t
     → length after ≡ length out → r .len ≤ length out
 listed-within said out t e same =
-    omega (arith, ap (λ (o : Outcome). o .answer .len) e, written-within out 0 (textBy said t) (omega arith) (listed-text said out t e) same)
+    omega (arith, ap (λ (o : ListingOutcome). o .answer .len) e, written-within out 0 (textBy said t) (omega arith) (listed-text said out t e) same)

@@ -1,38 +1,40 @@
 -- Document 01, "Worked instructions": the cost lister's whole output. The Rust has none.
 --
 -- In each, t is the state that the run starts from.
---   judgedOf trace              ==  what the trace says: its events, or its refusal      "reads a trace of at most 65,536 bytes";
---                                                                                        "`refused 1 at 0` for longer input"
---   tableOf es t                ==  the output for the events of a trace that is accepted: the header, a line for each retirement, the total
---   textBy said t               ==  the output by what the trace said                    "A refusal is its whole output"
---   verdictBy said              ==  the verdict by what the trace said
---   timingBy said t             ==  the next state by what the trace said                "A refused run .. returns .. the state it was given"
---   listingOf trace t           ==  the whole output
---   Outcome                     ==  what is returned, together with every lent byte afterwards
---   outcome r lent              ==  the outcome of these two
---   outcomeBy said lent t       ==  the outcome by what the trace said: the verdict, how long the output is, and the next state; the output
---                                   stands at the start of the lent bytes, and those beyond it stay
---   listTraceOf trace lent t    ==  the outcome of listing the trace into the lent bytes
+--   shortTraceOf trace            ==  what the trace says: its events, or its refusal
+--                                     "reads a trace of at most 65,536 bytes"; "`refused 1 at 0` for longer input"
+--   tableOf es t                  ==  the output for the events of a trace that is accepted: the header, a line for
+--                                     each retirement, the total
+--   textBy said t                 ==  the output by what the trace said
+--                                     "A refusal is its whole output"
+--   timingBy said t               ==  the next state by what the trace said
+--                                     "A refused run .. returns .. the state it was given"
+--   listingOf trace t             ==  the whole output
+--   ListingOutcome                ==  what is returned, together with every lent byte afterwards
+--   listingOutcome r lent         ==  the outcome of these two
+--   listingOutcomeBy said lent t  ==  the outcome by what the trace said: the verdict, how long the output is, and the
+--                                     next state; the output stands at the start of the lent bytes, and those beyond it
+--                                     stay
+--   listTraceOf trace lent t      ==  the outcome of listing the trace into the lent bytes
 use Prim.Native.Nat.{ℕ}
 use mathlib.Core.Bool.{cond}
 use mathlib.Core.List.{List, _++_}
 use lib.Dec.{ltb}
 use lib.ListN.{length}
 use Rattle.little_endian.specs.Numbers.{putAt}
-use Rattle.step.specs.declared.Event.{Event}
-use Rattle.step.specs.declared.Oep060Timing.{Oep060Timing}
-use Rattle.step.specs.Events.{total}
-use Rattle.step.specs.Step.{seenOf}
+use Rattle.state.specs.declared.Event.{Event}
+use Rattle.state.specs.declared.Oep060Timing.{Oep060Timing}
+use Rattle.state.specs.Events.{total, countOf}
+use Rattle.state.specs.Timing.{seenOf}
 use Rattle.refusals.specs.declared.Refusal.the-variants.{Oversized}
-use Rattle.refusals.specs.declared.Verdict.{Verdict}
-use Rattle.refusals.specs.declared.Verdict.the-variants.{Accepted, Refused}
-use Rattle.records.specs.Trace.{Trace, events, refused, readTrace, countOf}
+use Rattle.records.specs.Trace.{Trace, events, refused, readTrace}
 use Rattle.trace.specs.Run.{costsOf, nextOf}
 use Rattle.listing.specs.declared.Listed.{Listed}
-use Rattle.lines.specs.Lines.{refusalLine, headerLine, totalLine, opcodesOf, linesFrom}
+use Rattle.listing.specs.Lines.{refusalLine, headerLine, totalLine, opcodesOf, linesFrom}
+use Rattle.records.specs.Judged.{verdictOf}
 
-unfoldable pub judgedOf : List ℕ → Trace
-judgedOf trace = cond (ltb 65536 (length trace)) (refused Oversized) (readTrace trace)
+unfoldable pub shortTraceOf : List ℕ → Trace
+shortTraceOf trace = cond (ltb 65536 (length trace)) (refused Oversized) (readTrace trace)
 
 abbrev pub tableOf : List Event → Oep060Timing → List ℕ
 tableOf es t = headerLine ++ linesFrom 0 (opcodesOf es) (costsOf t es) ++ totalLine (countOf es) (total (costsOf t es))
@@ -41,29 +43,25 @@ abbrev pub textBy : Trace → Oep060Timing → List ℕ
 textBy (events es) t = tableOf es t
 textBy (refused refusal) t = refusalLine refusal
 
-abbrev pub verdictBy : Trace → Verdict
-verdictBy (events es) = Accepted
-verdictBy (refused refusal) = Refused refusal
-
 abbrev pub timingBy : Trace → Oep060Timing → Oep060Timing
 timingBy (events es) t = nextOf t es
 timingBy (refused refusal) t = seenOf t
 
 abbrev pub listingOf : List ℕ → Oep060Timing → List ℕ
-listingOf trace t = textBy (judgedOf trace) t
+listingOf trace t = textBy (shortTraceOf trace) t
 
-pub record Outcome : Type 0 where
+pub record ListingOutcome : Type 0 where
   pub answer : Listed
   pub lent : List ℕ
 
-abbrev pub outcome : Listed → List ℕ → Outcome
-outcome r lent = record { answer = r; lent = lent }
+abbrev pub listingOutcome : Listed → List ℕ → ListingOutcome
+listingOutcome r lent = record { answer = r; lent = lent }
 
-abbrev pub outcomeBy : Trace → List ℕ → Oep060Timing → Outcome
-outcomeBy said lent t =
-    outcome
-    (record { verdict = verdictBy said; len = length (textBy said t); timing = timingBy said t })
+abbrev pub listingOutcomeBy : Trace → List ℕ → Oep060Timing → ListingOutcome
+listingOutcomeBy said lent t =
+    listingOutcome
+    (record { verdict = verdictOf said; len = length (textBy said t); timing = timingBy said t })
     (putAt lent 0 (textBy said t))
 
-abbrev pub listTraceOf : List ℕ → List ℕ → Oep060Timing → Outcome
-listTraceOf trace lent t = outcomeBy (judgedOf trace) lent t
+abbrev pub listTraceOf : List ℕ → List ℕ → Oep060Timing → ListingOutcome
+listTraceOf trace lent t = listingOutcomeBy (shortTraceOf trace) lent t

@@ -1,18 +1,27 @@
 // Part 6 of document 01: the text that the cost lister prints.
+//
+// `lines` puts single lines (`text`); `table` puts the whole text of a trace that was run, and reads its records again
+// for their opcodes. Here a trace is run (`trace`), its costs into bytes, and `table` is handed both. `replaying` calls
+// `list_into`, the cost lister `list_trace`.
+mod lines;
+mod table;
+
+pub use lines::put_refusal;
 ghost use mathlib.Core.Path.{_≡_};
 ghost use Prim.Native.Nat.{_≤_};
 ghost use lib.ListN.{length};
-ghost use Rattle.trace.specs.Run as run;
-ghost use Rattle.listing.specs.Listing.{judgedOf, outcome, listTraceOf};
-use outcome::Ran;
+ghost use Rattle.trace.specs.Run.{traceOutcome, traceOutcomeOf};
+ghost use Rattle.listing.specs.Listing.{shortTraceOf, listingOutcome, listTraceOf};
+use refusals::Ran;
 use refusals::Refusal;
 use refusals::Verdict;
-use step::Oep060Timing;
+use state::Oep060Timing;
 
 // The longest trace that the tools take.
-const MOST_BYTES: usize = 65536;
+const MOST_LISTED_BYTES: usize = 65536;
 
-// Room for the longest text: 3,276 retirements of 20 bytes, a line of at most 20 characters each, the header and the total.
+// Room for the longest text: 3,276 retirements of 20 bytes, a line of at most 20 characters each, the header and the
+// total.
 pub const LISTING_ROOM: usize = 65600;
 
 // What listing a trace gives.
@@ -27,10 +36,11 @@ pub struct Listed {
 // Runs a trace of at most so many bytes; a longer one is refused.
 fn run_short(trace: &[u8], costs: &mut [u8], timing: Oep060Timing) -> Ran
     requires { ⌜ 13104 ≤ length (now costs) ⌝ }
-    ensures { λ r. ⌜ run.outcome r (now (costs .exit)) ≡ run.outcomeOf (judgedOf (now (trace .entry))) (now (costs .entry)) timing ⌝ }
+    ensures { λ r. ⌜ traceOutcome r (now (costs .exit))
+        ≡ traceOutcomeOf (shortTraceOf (now (trace .entry))) (now (costs .entry)) timing ⌝ }
 {
-    if MOST_BYTES < trace.len() {
-        return outcome::refused(Refusal::Oversized, timing);
+    if MOST_LISTED_BYTES < trace.len() {
+        return refusals::refused(Refusal::Oversized, timing);
     }
     trace::run_trace(trace, costs, timing)
 }
@@ -38,7 +48,7 @@ fn run_short(trace: &[u8], costs: &mut [u8], timing: Oep060Timing) -> Ran
 // Lists a trace into lent bytes that have room for any; the replay's have more.
 pub fn list_into(trace: &[u8], out: &mut [u8], timing: Oep060Timing) -> Listed
     requires { ⌜ 65600 ≤ length (now out) ⌝ }
-    ensures { λ r. ⌜ outcome r (now (out .exit)) ≡ listTraceOf (now (trace .entry)) (now (out .entry)) timing ⌝ }
+    ensures { λ r. ⌜ listingOutcome r (now (out .exit)) ≡ listTraceOf (now (trace .entry)) (now (out .entry)) timing ⌝ }
 {
     // 4 bytes for each retirement that such a trace can have.
     let mut costs = [0u8; 13104];
@@ -55,7 +65,8 @@ pub fn list_into(trace: &[u8], out: &mut [u8], timing: Oep060Timing) -> Listed
 
 // The cost lister's text: its length, and in the lent bytes the text itself; bytes beyond it stay.
 pub fn list_trace(trace: &[u8], text: &mut [u8; LISTING_ROOM], timing: Oep060Timing) -> Listed
-    ensures { λ r. ⌜ outcome r (now (text .exit)) ≡ listTraceOf (now (trace .entry)) (now (text .entry)) timing ⌝ }
+    ensures { λ r. ⌜ listingOutcome r (now (text .exit))
+        ≡ listTraceOf (now (trace .entry)) (now (text .entry)) timing ⌝ }
     ensures { λ r. ⌜ r .len ≤ length (now (text .exit)) ⌝ }
 {
     list_into(trace, text, timing)

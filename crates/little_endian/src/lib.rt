@@ -1,4 +1,13 @@
-// Numbers in bytes, the lowest byte first, read: what records, images and costs are made of.
+// Part 6 of document 01: numbers in bytes, the lowest byte first. Records, images and costs are made of them.
+//
+// Here numbers are read; `storing` puts them into lent bytes, and `signed` reads 32 bits as a signed number, which a
+// raw count is. Nothing is tested here: each caller knows that the bytes are there.
+mod signed;
+mod storing;
+
+pub use signed::i32_of;
+pub use storing::put_u16;
+pub use storing::put_u32;
 ghost use mathlib.Core.Path.{_≡_};
 ghost use Prim.Native.Nat.{_+_, _≤_};
 ghost use lib.ListN.{length};

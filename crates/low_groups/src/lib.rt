@@ -1,8 +1,11 @@
 // Part 2 of document 01: the class words of groups 0 to 7, but for group 4.
+//
+// Each group is one public function, whose tests are its rows in the order of the definition; groups 1 to 3 share
+// `move_060`. The words come from `operand`. `classifier` and `profile` choose the group.
 ghost use mathlib.Core.Path.{_≡_};
 ghost use mathlib.Core.Bool.{true, false};
 ghost use Rattle.bits.specs.Fields.{modeOf, regOf};
-ghost use Rattle.bits.specs.Rows.{after};
+ghost use Rattle.bits.specs.Rows.{rowsAfter};
 ghost use Rattle.class_word.specs.Word.{info, «USES_CCR_LATE»};
 ghost use Rattle.class_word.specs.declared.OepClass.the-variants.{PoepSoep};
 ghost use Rattle.operand.specs.Entry.{ea, entry, entryWord, packed};
@@ -16,7 +19,7 @@ use class_word::Info060;
 use class_word::OepClass;
 use operand::alu_of;
 use operand::destination_flags;
-use operand::flags_of;
+use operand::operand_flags;
 use operand::poep_only;
 use operand::unclassified;
 
@@ -27,7 +30,7 @@ fn bit_operation(op: u16) -> Info060
 {
     poep_only(
         1,
-        F_DEFINES_CCR | flags_of(op, true, (op & 0x00C0) != 0x0000),
+        F_DEFINES_CCR | operand_flags(op, true, (op & 0x00C0) != 0x0000),
     )
 }
 
@@ -49,7 +52,7 @@ pub fn group0(op: u16) -> Info060
 
 // The rows after the bit operations, CMP2 and CAS.
 fn immediate_060(op: u16) -> Info060
-    ensures { λ r. ⌜ r ≡ packed (after 4 (group0 op)) ⌝ }
+    ensures { λ r. ⌜ r ≡ packed (rowsAfter 4 (group0 op)) ⌝ }
 {
     if (op & 0x003F) == 0x003C {
         poep_only(1, F_VARIABLE)
@@ -63,7 +66,7 @@ fn immediate_060(op: u16) -> Info060
 pub fn move_060(op: u16) -> Info060
     ensures { λ r. ⌜ r ≡ packed (move op) ⌝ }
 {
-    let source = flags_of(op, true, false);
+    let source = operand_flags(op, true, false);
     let destination = destination_flags(op);
     Info060::new(
         OepClass::PoepSoep,
@@ -78,7 +81,7 @@ fn scc(op: u16) -> Info060
     Info060::new(
         OepClass::PoepSoep,
         1,
-        F_USES_CCR_LATE | flags_of(op, false, true),
+        F_USES_CCR_LATE | operand_flags(op, false, true),
     )
 }
 

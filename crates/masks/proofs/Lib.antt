@@ -1,2 +1,5 @@
-pub mod Groups
+pub mod MasksGroups
 pub mod Opmodes
+pub mod RegistersLaws
+pub mod Sets
+pub mod Modes

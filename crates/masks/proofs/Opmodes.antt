@@ -7,11 +7,11 @@ use native.Mathlib.Omega.{arith}
 use lib.Bits.{bitAnd, bitOr}
 use lib.Dec.{eqb, leb, ltb}
 use Rattle.bits.specs.Rows.{Rows, otherwise, _⇒_⨾_, first}
-use Rattle.registers.specs.declared.RegMasks060.{RegMasks060}
-use Rattle.registers.specs.Registers.{D, A, union, maskOfRegs}
-use Rattle.registers.specs.Operands.{Sets, uses_defines_, maskPair}
-use Rattle.registers.proofs.Registers.{mask-or, mask-or-swap, mask-or-none}
-use Rattle.registers.proofs.Sets.{pair}
+use Rattle.masks.specs.declared.registers.RegMasks060.{RegMasks060}
+use Rattle.masks.specs.Registers.{D, A, union, maskOfRegs}
+use Rattle.masks.specs.Operands.{Sets, uses_defines_, maskPair}
+use Rattle.masks.proofs.RegistersLaws.{mask-or, mask-or-swap, mask-or-none}
+use Rattle.masks.proofs.Sets.{pair}
 
 -- the definition's rows for an operand's sets s, a register r and an opmode m
 abbrev pub rowsBy : Sets → ℕ → ℕ → Rows Sets

@@ -1,9 +1,19 @@
 // Part 3 of document 01: the registers that an instruction uses and defines.
+//
+// `registers` has the pair of masks, what reaching an operand gives, and the groups that are all operands; `groups` has
+// group 4. Here are the groups that are left, and `reg_masks_060`, which matches on the top four bits. `profile` calls
+// the groups from a match of its own.
+mod groups;
+mod registers;
+
+pub use groups::group4_masks;
+pub use registers::RegMasks060;
+pub use registers::full;
+pub use registers::move_masks;
+pub use registers::quick_masks;
 ghost use mathlib.Core.Path.{_≡_};
-ghost use Rattle.registers.specs.Operands.{maskPair};
-ghost use Rattle.masks.specs.Masks.{moveqSets, dyadicSets, shiftSets};
-use registers::RegMasks060;
-use registers::full;
+ghost use Rattle.masks.specs.Operands.{maskPair};
+ghost use Rattle.masks.specs.Masks.{moveqSets, dyadicSets, shiftSets, masksOf};
 use registers::operand_masks;
 use registers::select;
 
@@ -48,5 +58,19 @@ pub fn shift_masks(op: u16) -> RegMasks060
         }
     } else {
         full()
+    }
+}
+
+pub fn reg_masks_060(op: u16) -> RegMasks060
+    ensures { λ r. ⌜ r ≡ masksOf op ⌝ }
+{
+    match op >> 12 {
+        0x1..=0x3 => move_masks(op),
+        0x7 => moveq_masks(op),
+        0x8 | 0x9 | 0xB | 0xC | 0xD => dyadic_masks(op),
+        0x5 => quick_masks(op),
+        0xE => shift_masks(op),
+        0x4 => group4_masks(op),
+        _ => full(),
     }
 }

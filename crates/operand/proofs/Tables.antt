@@ -1,4 +1,4 @@
--- The code's two tables of bits: a test computed at every mode and reg gives the rule at any.
+-- The code's two tables of bits: a test computed at all six bits gives the rule at any.
 -- Assumes nothing.
 use mathlib.Core.Path.{_≡_, ap, _∙_}
 use mathlib.Core.Bool.{Bool, true, _&&_}
@@ -21,13 +21,11 @@ each-below zero f t k h = absurd (not-suc-le-zero h)
 each-below (suc n) f t zero h = and-left (f 0) (every n (λ k. f (suc k))) t
 each-below (suc n) f t (suc k) h = each-below n (λ k. f (suc k)) (and-right (f 0) (every n (λ k. f (suc k))) t) k (le-of-suc-le-suc h)
 
--- the table's bit of this mode and reg is the rule's answer
-abbrev pub agrees : ℕ → (ℕ → ℕ → Bool) → ℕ → ℕ → Bool
-agrees table rule mode reg = eqb (table / 2 ^ (mode * 8 + reg) % 2) (num (rule mode reg))
+-- the table's bit of these six bits is the rule's answer at their mode and reg
+abbrev pub agrees : ℕ → (ℕ → ℕ → Bool) → ℕ → Bool
+agrees table rule six = eqb (table / 2 ^ six % 2) (num (rule (six / 8) (six % 8)))
 
-pub looked-up : (table : ℕ) (rule : ℕ → ℕ → Bool) → (every 8 λ m. every 8 (agrees table rule m)) ≡ true → (mode reg : ℕ) → mode < 8 → reg < 8
-    → eqb (bitAnd (table / 2 ^ (mode * 8 + reg)) 1) 1 ≡ rule mode reg
-looked-up table rule t mode reg m r =
-    ap (λ (n : ℕ). eqb n 1)
-    (and-mask (table / 2 ^ (mode * 8 + reg)) 1 ∙ eqb-true _ _ (each-below 8 (agrees table rule mode) (each-below 8 (λ m. every 8 (agrees table rule m)) t mode m) reg r))
-    ∙ num-is (rule mode reg)
+pub looked-up : (table : ℕ) (rule : ℕ → ℕ → Bool) → every 64 (agrees table rule) ≡ true → (six : ℕ) → six < 64
+    → eqb (bitAnd (table / 2 ^ six) 1) 1 ≡ rule (six / 8) (six % 8)
+looked-up table rule t six h =
+    ap (λ (n : ℕ). eqb n 1) (and-mask (table / 2 ^ six) 1 ∙ eqb-true _ _ (each-below 64 (agrees table rule) t six h)) ∙ num-is (rule (six / 8) (six % 8))

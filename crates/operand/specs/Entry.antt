@@ -1,22 +1,23 @@
 -- Document 01, "Classifying an opcode": what an operand and an instruction give. The Rust: ea_flags, alu, unclassified.
 --
---   isMemory mode reg    ==  "An operand is memory if mode is 2 or more, except mode 7 reg 4"
---   isIndexed mode reg   ==  "It is indexed if mode is 6, or mode 7 reg 3"
---   Access               ==  the three flags that operands give: EA_INDEXED, READS_MEM, WRITES_MEM
---   noAccess             ==  none of them
---   memoryOnly           ==  reads and writes memory, whatever the operand; never indexed
---   ea mode reg r w      ==  the flags of an operand that the instruction reads (r) and writes (w)     the Rust's ea_flags
---   together a b         ==  the flags of two operands
+--   isMemory mode reg   ==  "An operand is memory if mode is 2 or more, except mode 7 reg 4"
+--   isIndexed mode reg  ==  "It is indexed if mode is 6, or mode 7 reg 3"
+--   Access              ==  the three flags that operands give: EA_INDEXED, READS_MEM, WRITES_MEM
+--   noAccess            ==  none of them
+--   memoryOnly          ==  reads and writes memory, whatever the operand; never indexed
+--   ea mode reg r w     ==  the flags of an operand that the instruction reads (r) and writes (w): the Rust's ea_flags
+--   together a b        ==  the flags of two operands
 --   addressed op, read op, written op, modified op
---                        ==  the flags of the operand in the low six bits: neither read nor written, read, written, both
---   accessFlags a        ==  the sum of the flags that are set
---   Entry                ==  class, clocks, the sum of the flags that stand fixed, and those that the operands give
---   entryWord e          ==  the class word of an entry
---   plain c k f          ==  an entry whose operands give no flag
---   alu a                ==  class 0, 1 clock, DEFINES_CCR and the operands' flags                     the Rust's alu
---   serial               ==  class 1, 1 clock, VARIABLE
---   unclassified         ==  class 1, 1 clock, UNCLASSIFIED and VARIABLE                               the Rust's unclassified
---   packed rows          ==  the struct of the code that holds the class word of the first row that holds
+--                       ==  the flags of the operand in the low six bits: neither read nor written, read, written,
+--                           both
+--   accessFlags a       ==  the sum of the flags that are set
+--   Entry               ==  class, clocks, the sum of the flags that stand fixed, and those that the operands give
+--   entryWord e         ==  the class word of an entry
+--   plain c k f         ==  an entry whose operands give no flag
+--   alu a               ==  class 0, 1 clock, DEFINES_CCR and the operands' flags: the Rust's alu
+--   serial              ==  class 1, 1 clock, VARIABLE
+--   unclassified        ==  class 1, 1 clock, UNCLASSIFIED and VARIABLE: the Rust's unclassified
+--   packed rows         ==  the struct of the code that holds the class word of the first row that holds
 use Prim.Native.Nat.{ℕ, _+_, _*_}
 use mathlib.Core.Bool.{Bool, true, false, not, _&&_, _||_}
 use lib.Dec.{eqb, leb}
@@ -26,7 +27,17 @@ use Rattle.bits.specs.Words.{num}
 use Rattle.class_word.specs.declared.Info060.{Info060}
 use Rattle.class_word.specs.declared.OepClass.{OepClass}
 use Rattle.class_word.specs.declared.OepClass.the-variants.{PoepSoep, PoepOnly}
-use Rattle.class_word.specs.Word.{classNumber, wordOf, info, VARIABLE, UNCLASSIFIED, «DEFINES_CCR», «EA_INDEXED», «READS_MEM», «WRITES_MEM»}
+use Rattle.class_word.specs.Word.{
+  classNumber,
+  wordOf,
+  info,
+  VARIABLE,
+  UNCLASSIFIED,
+  «DEFINES_CCR»,
+  «EA_INDEXED»,
+  «READS_MEM»,
+  «WRITES_MEM»,
+}
 
 abbrev pub isMemory : ℕ → ℕ → Bool
 isMemory mode reg = leb 2 mode && not (eqb mode 7 && eqb reg 4)

@@ -1,15 +1,17 @@
 // Part 2 of document 01: what an operand gives, and the entries that are made of it.
+//
+// `operand_flags` and `destination_flags` look an operand up in two tables of bits; `alu_of`, `unclassified` and
+// `poep_only` pack the entries that many rows share. `low_groups`, `group_four` and `high_groups` are written over
+// these.
 ghost use mathlib.Core.Path.{_≡_};
 ghost use mathlib.Core.Bool.{true, false, _&&_};
-ghost use Prim.Native.Nat.{_*_, _<_};
+ghost use Prim.Native.Nat.{_*_, _/_, _%_, _<_};
 ghost use Rattle.bits.specs.Words.{num};
 ghost use Rattle.bits.specs.Fields.{modeOf, regOf, dstModeOf, dstRegOf};
 ghost use Rattle.class_word.specs.Word.{newOf, info};
 ghost use Rattle.operand.specs.Entry.{isMemory, isIndexed, ea, accessFlags, alu, entryWord, unclassified};
 use bits::dst_mode_of;
 use bits::dst_reg_of;
-use bits::mode_of;
-use bits::reg_of;
 use class_word::F_DEFINES_CCR;
 use class_word::F_EA_INDEXED;
 use class_word::F_READS_MEM;
@@ -19,23 +21,23 @@ use class_word::F_WRITES_MEM;
 use class_word::Info060;
 use class_word::OepClass;
 
-// Two tables of one bit for each mode and reg: a shift costs less than a chain of tests.
+// Two tables of one bit for each mode and reg, the six bits of an operand: a shift costs less than a chain of tests.
 const MEMORY: u64 = 0xEFFF_FFFF_FFFF_0000;
 
 const INDEXED: u64 = 0x08FF_0000_0000_0000;
 
-fn is_memory(mode: u16, reg: u16) -> bool
-    requires { ⌜ (mode < 8) × (reg < 8) ⌝ }
-    ensures { λ r. ⌜ r ≡ isMemory mode reg ⌝ }
+fn is_memory(six: u16) -> bool
+    requires { ⌜ six < 64 ⌝ }
+    ensures { λ r. ⌜ r ≡ isMemory (six / 8) (six % 8) ⌝ }
 {
-    (MEMORY >> (mode * 8 + reg)) & 1 == 1
+    (MEMORY >> six) & 1 == 1
 }
 
-fn is_indexed(mode: u16, reg: u16) -> bool
-    requires { ⌜ (mode < 8) × (reg < 8) ⌝ }
-    ensures { λ r. ⌜ r ≡ isIndexed mode reg ⌝ }
+fn is_indexed(six: u16) -> bool
+    requires { ⌜ six < 64 ⌝ }
+    ensures { λ r. ⌜ r ≡ isIndexed (six / 8) (six % 8) ⌝ }
 {
-    (INDEXED >> (mode * 8 + reg)) & 1 == 1
+    (INDEXED >> six) & 1 == 1
 }
 
 // The flag where it is on, and none where it is off.
@@ -52,29 +54,31 @@ fn flag_if_both(on: bool, also: bool, flag: u16) -> u16
     if on { flag_if(also, flag) } else { 0 }
 }
 
-fn ea_flags(mode: u16, reg: u16, read: bool, write: bool) -> u16
-    requires { ⌜ (mode < 8) × (reg < 8) ⌝ }
-    ensures { λ r. ⌜ r ≡ accessFlags (ea mode reg read write) ⌝ }
+fn ea_flags(six: u16, read: bool, write: bool) -> u16
+    requires { ⌜ six < 64 ⌝ }
+    ensures { λ r. ⌜ r ≡ accessFlags (ea (six / 8) (six % 8) read write) ⌝ }
 {
-    let is_mem = is_memory(mode, reg);
-    let index = is_indexed(mode, reg);
+    let is_mem = is_memory(six);
+    let index = is_indexed(six);
     flag_if_both(is_mem, read, F_READS_MEM)
         | flag_if_both(is_mem, write, F_WRITES_MEM)
         | flag_if(index, F_EA_INDEXED)
 }
 
 // The flags of the operand in the low six bits.
-pub fn flags_of(op: u16, read: bool, write: bool) -> u16
+pub fn operand_flags(op: u16, read: bool, write: bool) -> u16
     ensures { λ r. ⌜ r ≡ accessFlags (ea (modeOf op) (regOf op) read write) ⌝ }
 {
-    ea_flags(mode_of(op), reg_of(op), read, write)
+    ea_flags(op & 63, read, write)
 }
 
-// The flags of MOVE's destination.
+// The flags of MOVE's destination, whose register stands above its mode.
 pub fn destination_flags(op: u16) -> u16
     ensures { λ r. ⌜ r ≡ accessFlags (ea (dstModeOf op) (dstRegOf op) false true) ⌝ }
 {
-    ea_flags(dst_mode_of(op), dst_reg_of(op), false, true)
+    let mode = dst_mode_of(op);
+    let reg = dst_reg_of(op);
+    ea_flags(mode << 3 | reg, false, true)
 }
 
 pub fn alu_of(op: u16, read: bool, write: bool) -> Info060
@@ -83,7 +87,7 @@ pub fn alu_of(op: u16, read: bool, write: bool) -> Info060
     Info060::new(
         OepClass::PoepSoep,
         1,
-        F_DEFINES_CCR | flags_of(op, read, write),
+        F_DEFINES_CCR | operand_flags(op, read, write),
     )
 }
 

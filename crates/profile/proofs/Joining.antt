@@ -8,11 +8,11 @@ use native.Mathlib.Omega.{arith}
 use Rattle.class_word.specs.declared.Info060.{Info060}
 use Rattle.class_word.specs.Word.{info}
 use Rattle.classifier.specs.Classify.{classifyOf}
-use Rattle.registers.specs.declared.RegMasks060.{RegMasks060}
-use Rattle.registers.specs.Operands.{undecoded, maskPair}
+use Rattle.masks.specs.declared.registers.RegMasks060.{RegMasks060}
+use Rattle.masks.specs.Operands.{undecoded, maskPair}
 use Rattle.masks.specs.Masks.{groupSets, masksOf}
-use Rattle.masks.proofs.Groups.{group-is}
-use Rattle.dispatch.specs.declared.Instruction.{Instruction}
+use Rattle.masks.proofs.MasksGroups.{group-is}
+use Rattle.window.specs.declared.dispatch.Instruction.{Instruction}
 use Rattle.profile.specs.Profile.{joinedOf, crateProfile}
 
 pub both : (op : ℕ) {r : Instruction} {w : Info060} {m : RegMasks060} → r ≡ joinedOf w m → w ≡ info (classifyOf op) → m ≡ masksOf op → r ≡ crateProfile op

@@ -1,9 +1,12 @@
 // Parts 2 and 3 of document 01 joined: what an opcode is to the pairing window.
+//
+// `instruction_060` calls the groups of the classifier and of `masks` from one match, and equals the two functions that
+// `step` calls apart. `in_place` calls it, since it is faster.
 ghost use mathlib.Core.Path.{_≡_};
 ghost use Rattle.profile.specs.Profile.{joinedOf, crateProfile};
 use class_word::Info060;
-use dispatch::Instruction;
-use registers::RegMasks060;
+use masks::RegMasks060;
+use window::Instruction;
 
 fn joined(word: Info060, masks: RegMasks060) -> Instruction
     ensures { λ r. ⌜ r ≡ joinedOf word masks ⌝ }
@@ -20,17 +23,17 @@ pub fn instruction_060(op: u16) -> Instruction
     ensures { λ r. ⌜ r ≡ crateProfile op ⌝ }
 {
     match op >> 12 {
-        0x0 => joined(low_groups::group0(op), registers::full()),
-        0x1..=0x3 => joined(low_groups::move_060(op), registers::move_masks(op)),
-        0x4 => joined(group_four::group4(op), group_four_masks::group4_masks(op)),
-        0x5 => joined(low_groups::group5(op), registers::quick_masks(op)),
-        0x6 => joined(low_groups::group6(op), registers::full()),
+        0x0 => joined(low_groups::group0(op), masks::full()),
+        0x1..=0x3 => joined(low_groups::move_060(op), masks::move_masks(op)),
+        0x4 => joined(group_four::group4(op), masks::group4_masks(op)),
+        0x5 => joined(low_groups::group5(op), masks::quick_masks(op)),
+        0x6 => joined(low_groups::group6(op), masks::full()),
         0x7 => joined(low_groups::group7(op), masks::moveq_masks(op)),
         0x8 => joined(high_groups::group8(op), masks::dyadic_masks(op)),
         0x9 | 0xD => joined(high_groups::add_sub(op), masks::dyadic_masks(op)),
         0xB => joined(high_groups::group11(op), masks::dyadic_masks(op)),
         0xC => joined(high_groups::group12(op), masks::dyadic_masks(op)),
         0xE => joined(high_groups::group14(op), masks::shift_masks(op)),
-        _ => joined(operand::unclassified(), registers::full()),
+        _ => joined(operand::unclassified(), masks::full()),
     }
 }

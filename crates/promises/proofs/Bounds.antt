@@ -9,15 +9,15 @@ use lib.ListN.{length}
 use Rattle.bits.specs.Words.{num}
 use Rattle.bits.proofs.Words.{num-small}
 use Rattle.window.specs.declared.Window.{Window}
-use Rattle.pairing.specs.Retiring.{Retiring}
+use Rattle.cost.specs.Retiring.{Retiring}
 use Rattle.window.specs.Windows.{shut, seen}
-use Rattle.pairing.specs.Cost.{costOf, windowOf}
-use Rattle.free.specs.Free.{sound}
-use Rattle.free.proofs.Zero.{zero-shuts}
-use Rattle.step.specs.declared.Event.{Event}
-use Rattle.step.specs.declared.Event.the-variants.{Retired, Broken, ClearedAll, ClearedUser}
-use Rattle.step.specs.Board.{Board}
-use Rattle.step.specs.Events.{State, retiringOf, after, retirements, costs, total}
+use Rattle.cost.specs.Cost.{costOf, windowOf}
+use Rattle.cost.specs.Free.{sound}
+use Rattle.cost.proofs.Zero.{zero-shuts}
+use Rattle.state.specs.declared.Event.{Event}
+use Rattle.state.specs.declared.Event.the-variants.{Retired, Broken, ClearedAll, ClearedUser}
+use Rattle.state.specs.Board.{Board}
+use Rattle.state.specs.Events.{State, retiringOf, after, retirements, costs, total}
 use Rattle.promises.specs.Demand3.{Sound}
 
 -- what an open window is worth

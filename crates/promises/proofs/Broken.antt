@@ -3,10 +3,10 @@
 -- Assumes nothing.
 use mathlib.Core.Path.{_≡_, refl}
 use Rattle.window.specs.Windows.{shut}
-use Rattle.step.specs.declared.Oep060Timing.{Oep060Timing}
-use Rattle.step.specs.declared.Event.the-variants.{Broken, ClearedAll, ClearedUser}
-use Rattle.step.specs.Step.{brokenOf, clearedOf, userClearedOf}
-use Rattle.board.specs.Crate.{afterOf}
+use Rattle.state.specs.declared.Oep060Timing.{Oep060Timing}
+use Rattle.state.specs.declared.Event.the-variants.{Broken, ClearedAll, ClearedUser}
+use Rattle.state.specs.Timing.{brokenOf, clearedOf, userClearedOf}
+use Rattle.step.specs.CrateBoard.{afterOf}
 
 module _ (t : Oep060Timing) where
   pub break-is-the-event : afterOf t Broken ≡ record { cache = t .cache; window = shut }

@@ -8,14 +8,14 @@ use borrow.Author.Tests.{eqb-true, eq-eqb, le-leb}
 use Rattle.class_word.specs.Word.{classOf, clocksOf, has, BRANCH}
 use Rattle.low_groups.specs.LowGroups.{group7}
 use Rattle.classifier.specs.Classify.{classifyOf}
-use Rattle.registers.specs.Registers.{maskOfRegs}
+use Rattle.masks.specs.Registers.{maskOfRegs}
 use Rattle.masks.specs.Masks.{setsOf}
-use Rattle.branch_cache.specs.Cache.{freshOf}
-use Rattle.free.specs.Free.{sound}
-use Rattle.step.specs.Board.{CacheRule, Board}
+use Rattle.branch_cache.specs.Cache.{cacheFreshOf}
+use Rattle.cost.specs.Free.{sound}
+use Rattle.state.specs.Board.{CacheRule, Board}
 use Rattle.profile.specs.Profile.{crateProfile}
-use Rattle.step.specs.Crate.{crateCache}
-use Rattle.board.specs.Crate.{crateBoard}
+use Rattle.state.specs.CrateCache.{crateCache}
+use Rattle.step.specs.CrateBoard.{crateBoard}
 use Rattle.promises.specs.Demand3.{Sound, Demand3}
 use Rattle.promises.proofs.Opcodes.{every-opcode}
 use Rattle.promises.proofs.Zero.{costs-zero, then-shut}
@@ -59,7 +59,7 @@ pub profile-demand3 : (K : CacheRule) → K .Cache → Demand3 (record { profile
 profile-demand3 K c = demand3 (record { profile = crateProfile; rule = K }) word-sound c 0x7000 0x7200 moveq-d0 moveq-d1
 
 pub crate-demand3 : Demand3 crateBoard
-crate-demand3 = profile-demand3 crateCache freshOf
+crate-demand3 = profile-demand3 crateCache cacheFreshOf
 
 pub crate-sound : Sound crateBoard
 crate-sound = word-sound

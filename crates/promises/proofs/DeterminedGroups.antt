@@ -14,15 +14,13 @@ use Rattle.high_groups.proofs.add_sub.Reads as high-groups-add-sub
 use Rattle.high_groups.proofs.group11.Reads as high-groups-group11
 use Rattle.high_groups.proofs.group12.Reads as high-groups-group12
 use Rattle.high_groups.proofs.group14.Reads as high-groups-group14
-use Rattle.registers.proofs.select.Reads as masks-select
-use Rattle.registers.proofs.operand_masks.Reads as masks-operand-masks
-use Rattle.registers.proofs.full.Reads as masks-full
-use Rattle.registers.proofs.move_masks.Reads as masks-move-masks
+use Rattle.masks.proofs.full.Reads as masks-full
+use Rattle.masks.proofs.move_masks.Reads as masks-move-masks
 use Rattle.masks.proofs.moveq_masks.Reads as masks-moveq-masks
 use Rattle.masks.proofs.dyadic_masks.Reads as masks-dyadic-masks
-use Rattle.registers.proofs.quick_masks.Reads as masks-quick-masks
+use Rattle.masks.proofs.quick_masks.Reads as masks-quick-masks
 use Rattle.masks.proofs.shift_masks.Reads as masks-shift-masks
-use Rattle.group_four_masks.proofs.group4_masks.Reads as masks-group4-masks
+use Rattle.masks.proofs.group4_masks.Reads as masks-group4-masks
 use Rattle.profile.proofs.instruction_060.Reads as profile-instruction-060
 
 module _ (κs : Lifetimes.Lfts 0) where
@@ -58,12 +56,6 @@ module _ (κs : Lifetimes.Lfts 0) where
 
   pub high-groups-group14-determined : Determined result (high-groups-group14.Post κs)
   high-groups-group14-determined i r r′ x x′ p q = p ∙ sym q
-
-  pub masks-select-determined : Determined result (masks-select.Post κs)
-  masks-select-determined i r r′ x x′ p q = p ∙ sym q
-
-  pub masks-operand-masks-determined : Determined result (masks-operand-masks.Post κs)
-  masks-operand-masks-determined i r r′ x x′ p q = p ∙ sym q
 
   pub masks-full-determined : Determined result (masks-full.Post κs)
   masks-full-determined i r r′ x x′ p q = p ∙ sym q

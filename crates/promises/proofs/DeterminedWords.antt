@@ -18,17 +18,15 @@ use Rattle.class_word.proofs.Info060.new.Reads as class-word-info060-new
 use Rattle.class_word.proofs.Info060.class.Reads as class-word-info060-class
 use Rattle.class_word.proofs.Info060.cycles.Reads as class-word-info060-cycles
 use Rattle.class_word.proofs.Info060.has.Reads as class-word-info060-has
-use Rattle.operand.proofs.flags_of.Reads as operand-flags-of
+use Rattle.operand.proofs.operand_flags.Reads as operand-operand-flags
 use Rattle.operand.proofs.destination_flags.Reads as operand-destination-flags
 use Rattle.operand.proofs.alu_of.Reads as operand-alu-of
 use Rattle.operand.proofs.unclassified.Reads as operand-unclassified
 use Rattle.operand.proofs.poep_only.Reads as operand-poep-only
-use Rattle.opcodes.proofs.classify_060_opcode.Reads as opcodes-classify-060-opcode
-use Rattle.opcodes.proofs.info_060.Reads as opcodes-info-060
-use Rattle.opcodes.proofs.reg_masks_060.Reads as opcodes-reg-masks-060
-use Rattle.hex.proofs.hex_digit.Reads as hex-hex-digit
-use Rattle.hex.proofs.hex4.Reads as hex-hex4
-use Rattle.hex.proofs.hex2.Reads as hex-hex2
+use Rattle.classifier.proofs.classify_060_opcode.Reads as classifier-classify-060-opcode
+use Rattle.classifier.proofs.info_060.Reads as classifier-info-060
+use Rattle.masks.proofs.reg_masks_060.Reads as masks-reg-masks-060
+use Rattle.text.proofs.hex4.Reads as text-hex4
 
 -- a class is known by its number
 classAt : ℕ → OepClass
@@ -69,8 +67,8 @@ module _ (κs : Lifetimes.Lfts 0) where
   pub class-word-info060-has-determined : Determined result (class-word-info060-has.Post κs)
   class-word-info060-has-determined i r r′ x x′ p q = p ∙ sym q
 
-  pub operand-flags-of-determined : Determined result (operand-flags-of.Post κs)
-  operand-flags-of-determined i r r′ x x′ p q = p ∙ sym q
+  pub operand-operand-flags-determined : Determined result (operand-operand-flags.Post κs)
+  operand-operand-flags-determined i r r′ x x′ p q = p ∙ sym q
 
   pub operand-destination-flags-determined : Determined result (operand-destination-flags.Post κs)
   operand-destination-flags-determined i r r′ x x′ p q = p ∙ sym q
@@ -84,20 +82,14 @@ module _ (κs : Lifetimes.Lfts 0) where
   pub operand-poep-only-determined : Determined result (operand-poep-only.Post κs)
   operand-poep-only-determined i r r′ x x′ p q = p ∙ sym q
 
-  pub opcodes-classify-060-opcode-determined : Determined result (opcodes-classify-060-opcode.Post κs)
-  opcodes-classify-060-opcode-determined i r r′ x x′ p q = p ∙ sym q
+  pub classifier-classify-060-opcode-determined : Determined result (classifier-classify-060-opcode.Post κs)
+  classifier-classify-060-opcode-determined i r r′ x x′ p q = p ∙ sym q
 
-  pub opcodes-info-060-determined : Determined result (opcodes-info-060.Post κs)
-  opcodes-info-060-determined i r r′ x x′ p q = p ∙ sym q
+  pub classifier-info-060-determined : Determined result (classifier-info-060.Post κs)
+  classifier-info-060-determined i r r′ x x′ p q = p ∙ sym q
 
-  pub opcodes-reg-masks-060-determined : Determined result (opcodes-reg-masks-060.Post κs)
-  opcodes-reg-masks-060-determined i r r′ x x′ p q = p ∙ sym q
+  pub masks-reg-masks-060-determined : Determined result (masks-reg-masks-060.Post κs)
+  masks-reg-masks-060-determined i r r′ x x′ p q = p ∙ sym q
 
-  pub hex-hex-digit-determined : Determined result (hex-hex-digit.Post κs)
-  hex-hex-digit-determined i r r′ x x′ p q = p ∙ sym q
-
-  pub hex-hex4-determined : Determined result (hex-hex4.Post κs)
-  hex-hex4-determined i r r′ x x′ p q = p ∙ sym q
-
-  pub hex-hex2-determined : Determined result (hex-hex2.Post κs)
-  hex-hex2-determined i r r′ x x′ p q = p ∙ sym q
+  pub text-hex4-determined : Determined result (text-hex4.Post κs)
+  text-hex4-determined i r r′ x x′ p q = p ∙ sym q

@@ -16,4 +16,6 @@ pub mod Batches
 pub mod DeterminedHosts
 pub mod DeterminedGroups
 pub mod DeterminedInPlace
-pub mod DeterminedParts
+pub mod DeterminedByHand
+pub mod Moving
+pub mod MovingHosts

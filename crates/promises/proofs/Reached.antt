@@ -8,20 +8,20 @@ use native.Mathlib.Omega.{arith}
 use lib.ListN.{length}
 use lib.IntN.{pos}
 use Rattle.class_word.specs.Word.{info}
-use Rattle.dispatch.specs.declared.Instruction.{Instruction}
-use Rattle.dispatch.specs.declared.Controls.{Controls}
+use Rattle.window.specs.declared.dispatch.Instruction.{Instruction}
+use Rattle.window.specs.declared.dispatch.Controls.{Controls}
 use Rattle.window.specs.declared.Window.{Window}
-use Rattle.branching.specs.declared.Answer.{Answer}
-use Rattle.branching.specs.Branch.{takenOf}
-use Rattle.pairing.specs.Retiring.{Retiring, kindOf}
+use Rattle.cost.specs.declared.branch.Answer.{Answer}
+use Rattle.cost.specs.Branch.{takenOf}
+use Rattle.cost.specs.Retiring.{Retiring, pointOf}
 use Rattle.window.specs.Windows.{shut}
-use Rattle.dispatch.specs.Dispatch.{failing, firstFailing, holds, isSimple}
-use Rattle.pairing.specs.Cost.{costOf, windowOf, pairs, headOf, plainOf, baseOf}
-use Rattle.step.specs.declared.Retirement.{Retirement}
-use Rattle.step.specs.declared.Event.{Event}
-use Rattle.step.specs.declared.Event.the-variants.{Retired}
-use Rattle.step.specs.Board.{Board}
-use Rattle.step.specs.Events.{State, retiringOf, after, cacheAfter, retirements, costs, total, answerOf}
+use Rattle.window.specs.Dispatch.{failing, firstFailing, holds, isSimple}
+use Rattle.cost.specs.Cost.{costOf, windowOf, pairs, headOf, plainOf, baseOf}
+use Rattle.state.specs.declared.Retirement.{Retirement}
+use Rattle.state.specs.declared.Event.{Event}
+use Rattle.state.specs.declared.Event.the-variants.{Retired}
+use Rattle.state.specs.Board.{Board}
+use Rattle.state.specs.Events.{State, retiringOf, after, cacheAfter, retirements, costs, total, answerOf}
 
 -- MOVEQ: class 0, 1 clock, defines the CCR; uses nothing, and defines what is given
 abbrev pub moveq : ℕ → Instruction
@@ -38,19 +38,19 @@ abbrev met : Instruction → Window → Answer → Retiring
 met i w a = record { instruction = i; controls = calm; window = w; answer = a }
 
 head-cost : (a : Answer) → costOf (met (moveq 1) shut a) ≡ 1
-unfolding costOf kindOf pairs baseOf plainOf
+unfolding costOf pointOf pairs baseOf plainOf
 head-cost a = refl
 
 head-opens : (a : Answer) → windowOf (met (moveq 1) shut a) ≡ opened₀
-unfolding windowOf kindOf pairs headOf
+unfolding windowOf pointOf pairs headOf
 head-opens a = refl
 
 tail-cost : (a : Answer) → costOf (met (moveq 2) opened₀ a) ≡ 0
-unfolding costOf kindOf pairs baseOf plainOf failing firstFailing holds isSimple
+unfolding costOf pointOf pairs baseOf plainOf failing firstFailing holds isSimple
 tail-cost a = refl
 
 tail-shuts : (a : Answer) → windowOf (met (moveq 2) opened₀ a) ≡ shut
-unfolding windowOf kindOf pairs failing firstFailing holds isSimple
+unfolding windowOf pointOf pairs failing firstFailing holds isSimple
 tail-shuts a = refl
 
 module _ (B : Board) (op₀ op₁ : ℕ) (e₀ : B .profile op₀ ≡ moveq 1) (e₁ : B .profile op₁ ≡ moveq 2) where

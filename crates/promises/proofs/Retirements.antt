@@ -6,18 +6,18 @@ use mathlib.Core.Bool.{true, _&&_, _||_}
 use contract.Lifetimes
 use Rattle.class_word.specs.declared.Clocks.{Clocks}
 use Rattle.class_word.specs.Word.{clocks}
-use Rattle.branch_cache.proofs.Laws.{cache-miss-keeps}
+use Rattle.branch_cache.proofs.Laws.{cache-miss-keeps, slot-foreign-misses}
 use Rattle.window.specs.Windows.{shut}
-use Rattle.pairing.specs.Cost.{costOf}
-use Rattle.dispatch.proofs.Rules.{passes-simple}
-use Rattle.free.proofs.Zero.{pair-cost, pair-costs-nothing}
-use Rattle.step.specs.declared.Oep060Timing.{Oep060Timing}
-use Rattle.step.specs.declared.Stepped.{Stepped}
-use Rattle.step.specs.declared.Event.the-variants.{Retired}
-use Rattle.step.specs.Events.{retiringOf}
-use Rattle.step.specs.Step.{stateOf, steppedBy}
-use Rattle.board.specs.Crate.{crateBoard, steppedOf, afterOf}
-use Rattle.cycles.proofs.cycles_060.Reads as reads
+use Rattle.cost.specs.Cost.{costOf}
+use Rattle.window.proofs.Rules.{passes-simple}
+use Rattle.cost.proofs.Zero.{pair-cost, pair-costs-nothing}
+use Rattle.state.specs.declared.Oep060Timing.{Oep060Timing}
+use Rattle.state.specs.declared.Stepped.{Stepped}
+use Rattle.state.specs.declared.Event.the-variants.{Retired}
+use Rattle.state.specs.Events.{retiringOf}
+use Rattle.state.specs.Timing.{stateOf, steppedBy}
+use Rattle.step.specs.CrateBoard.{crateBoard, steppedOf, afterOf}
+use Rattle.step.proofs.cycles_060.Reads as reads
 use Rattle.promises.specs.Retirements.{EveryEvent}
 use Rattle.promises.specs.Demand3.{joins, folds}
 use Rattle.promises.proofs.Demand.{crate-sound, crate-demand3}
@@ -41,6 +41,7 @@ every-event =
       clearUserKeepsTags = λ t. refl;
       clearUserKeepsWindow = λ t. refl;
       missKeeps = λ c pc m user. cache-miss-keeps c pc user m;
+      foreignMisses = slot-foreign-misses;
     }
 
 -- whatever `cycles_060` may hand back is the machine's cost and next state, so demand 3 is about it: here its first two sentences

@@ -1,36 +1,48 @@
--- The facts of every run of a trace, from the laws of the crate trace; and a run is its events stepped one by one, by their number.
+-- The facts of every run of a trace, from the laws of the crate trace; and a run is its events walked one by one, by their number.
 -- Assumes nothing.
 use mathlib.Core.Path.{_≡_, refl, ap}
+use mathlib.Core.Bool.{true}
 use mathlib.Core.List.{List, [], _∷_}
+use Prim.Native.Nat.{ℕ}
 use native.Mathlib.Omega.{arith}
-use lib.ListN.{length-append}
-use Rattle.pairing.specs.Cost.{costOf}
-use Rattle.step.specs.declared.Oep060Timing.{Oep060Timing}
-use Rattle.step.specs.declared.Event.{Event}
-use Rattle.step.specs.declared.Event.the-variants.{Retired, Broken, ClearedAll, ClearedUser}
-use Rattle.step.specs.Events.{retiringOf, retirements, finally, costs}
-use Rattle.step.specs.Step.{stateOf, timingOf, seenOf, steppedBy}
-use Rattle.board.specs.Crate.{crateBoard, steppedOf, afterOf}
-use Rattle.trace.proofs.Refused.{run-refused, run-refused-only, run-accepted}
+use lib.ListN.{length, length-append}
+use Rattle.cost.specs.Cost.{costOf}
+use Rattle.state.specs.declared.Oep060Timing.{Oep060Timing}
+use Rattle.state.specs.declared.Event.{Event}
+use Rattle.state.specs.declared.Event.the-variants.{Retired, Broken, ClearedAll, ClearedUser}
+use Rattle.state.specs.Events.{retiringOf, retirements, finally, costs}
+use Rattle.state.specs.Timing.{stateOf, timingOf, seenOf, steppedBy}
+use Rattle.step.specs.CrateBoard.{crateBoard, steppedOf, afterOf}
+use Rattle.trace.proofs.Refused.{run-refused, run-refused-only, run-keeps, run-accepted, run-accepted-only}
 use Rattle.trace.proofs.Parts.{run-parts}
-use Rattle.promises.specs.Traces.{Stepped, stepped, EveryTrace}
+use Rattle.promises.specs.Traces.{Walked, walked, EveryTrace}
+use Rattle.refusals.specs.Given.{gives}
+use Rattle.refusals.proofs.Told.{told-gives}
+use Rattle.records.specs.TraceTable.{Refuses}
+use Rattle.trace.specs.Run.{TraceOutcome, runTraceOf}
 
 steps : (t : Oep060Timing) (es : List Event)
-    → _≡_ {A = Stepped} (record { costs = costs crateBoard (stateOf t) es; timing = timingOf (finally crateBoard (stateOf t) es) }) (stepped t es)
+    → _≡_ {A = Walked} (record { costs = costs crateBoard (stateOf t) es; timing = timingOf (finally crateBoard (stateOf t) es) }) (walked t es)
 unfolding retirements finally steppedBy
 steps t [] = refl
 steps t (Retired r ∷ es) =
-    ap (λ (s : Stepped). record { costs = costOf (retiringOf crateBoard (stateOf t) r) ∷ s .costs; timing = s .timing }) (steps (steppedOf t r .timing) es)
+    ap (λ (s : Walked). record { costs = costOf (retiringOf crateBoard (stateOf t) r) ∷ s .costs; timing = s .timing }) (steps (steppedOf t r .timing) es)
 steps t (Broken ∷ es) = steps (afterOf t Broken) es
 steps t (ClearedAll ∷ es) = steps (afterOf t ClearedAll) es
 steps t (ClearedUser ∷ es) = steps (afterOf t ClearedUser) es
 
+refused-gives : (trace lent : List ℕ) (t : Oep060Timing) {n p : ℕ} → Refuses trace (length lent) n p → gives n p (runTraceOf trace lent t .ran .verdict) ≡ true
+refused-gives trace lent t h =
+    let x = run-refused trace lent t h in
+    told-gives (record { refusal = x .refusal; number = x .number; place = x .place; so = ap (λ (o : TraceOutcome). o .ran .verdict) (x .so) })
+
 pub every-trace : EveryTrace
 every-trace =
     record {
-      refusedThen = λ trace lent t refusal h. run-refused trace lent t h;
-      refusedOnly = λ trace lent t refusal h. run-refused-only trace lent t h;
+      given = λ trace lent t n p. (run-refused-only trace lent t, refused-gives trace lent t);
+      refusedKeeps = run-keeps;
       acceptedThen = λ trace lent t es h. run-accepted trace lent t h;
+      acceptedOnly = run-accepted-only;
       stepByStep = λ t es. steps (seenOf t) es;
       inParts = λ a b l m t es fs size first fills second. run-parts a b l m t first second fills (omega (arith, length-append a b));
     }

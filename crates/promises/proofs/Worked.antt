@@ -7,10 +7,10 @@ use Rattle.low_groups.specs.LowGroups.{group0, move, group5, group6, group7}
 use Rattle.group_four.specs.Group4.{group4}
 use Rattle.high_groups.specs.HighGroups.{group8, addSub, group11, group12, group14}
 use Rattle.classifier.specs.Classify.{classifyOf}
-use Rattle.registers.specs.Registers.{maskOfRegs}
-use Rattle.group_four_masks.specs.Masks.{group4Sets}
+use Rattle.masks.specs.Registers.{maskOfRegs}
+use Rattle.masks.specs.GroupFour.{group4Sets}
 use Rattle.masks.specs.Masks.{setsOf, dyadicSets, shiftSets}
-use Rattle.registers.specs.Operands.{operandSets, registerOperand}
+use Rattle.masks.specs.Operands.{operandSets, registerOperand}
 use Rattle.promises.specs.Worked.{Worked}
 
 pub worked : Worked

@@ -3,20 +3,21 @@
 use mathlib.Core.Path.{_≡_, refl, sym, ap, _∙_}
 use mathlib.Core.Logic.{_↔_}
 use mathlib.Core.Bool.{Bool, true, false, cond, _&&_, _||_}
+use lib.Dec.{eqb}
 use borrow.Author.Tests.{eqb-true, eq-eqb}
 use Rattle.class_word.specs.Word.{has, BRANCH}
-use Rattle.slot.specs.declared.Predicted.{Predicted}
-use Rattle.slot.specs.declared.Predicted.the-variants as P
-use Rattle.branching.specs.declared.Answer.the-variants.{NotConsulted}
-use Rattle.branching.specs.Branch.{takenOf, predictsTaken}
+use Rattle.branch_cache.specs.declared.slot.Predicted.{Predicted}
+use Rattle.branch_cache.specs.declared.slot.Predicted.the-variants as P
+use Rattle.cost.specs.declared.branch.Answer.the-variants.{NotConsulted}
+use Rattle.cost.specs.Branch.{takenOf, predictsTaken}
 use Rattle.window.specs.Windows.{shut}
-use Rattle.pairing.specs.Cost.{costOf}
-use Rattle.free.specs.Free.{free}
-use Rattle.free.proofs.Zero.{zero-exactly, zero-shuts}
-use Rattle.step.specs.declared.Retirement.{Retirement}
-use Rattle.step.specs.declared.Event.the-variants.{Retired}
-use Rattle.step.specs.Board.{Board}
-use Rattle.step.specs.Events.{State, heard, answerOf, retiringOf, after}
+use Rattle.cost.specs.Cost.{costOf}
+use Rattle.cost.specs.Free.{free}
+use Rattle.cost.proofs.Zero.{zero-exactly, zero-shuts}
+use Rattle.state.specs.declared.Retirement.{Retirement}
+use Rattle.state.specs.declared.Event.the-variants.{Retired}
+use Rattle.state.specs.Board.{Board}
+use Rattle.state.specs.Events.{State, heard, answerOf, retiringOf, after}
 use Rattle.promises.specs.Demand3.{Sound, isTaken, joins, folds}
 
 -- the answer is "taken" only for a branch that asked a cache that predicts so
@@ -39,6 +40,9 @@ module _ (B : Board) (s : State (B .rule)) (r : Retirement) where
       (B .rule .predict (s .cache) (r .controls .ppc)))
 
   module _ (ok : Sound B) where
+    pub zero-is : eqb (costOf (retiringOf B s r)) 0 ≡ (s .window .opened && (joins B s r || folds B s r))
+    zero-is = zero-exactly _ (ok (r .op)) ∙ free-is
+
     pub costs-zero : (costOf (retiringOf B s r) ≡ 0) ↔ ((s .window .opened && (joins B s r || folds B s r)) ≡ true)
     costs-zero = (
       λ z. sym (zero-exactly _ (ok (r .op)) ∙ free-is) ∙ eq-eqb _ _ z,

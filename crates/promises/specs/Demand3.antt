@@ -1,13 +1,14 @@
 -- The tender's demand 3, over any board: "Reason: time must move."
 --
---   Sound B     ==  what demand 3 needs of a board: every class word has at least 1 clock, exactly 1 in class 0, and no BRANCH
---                   word is in class 0
---   isTaken p   ==  the cache predicts taken
---   joins s r   ==  "keeps the flow and passes the dispatch test"
---   folds s r   ==  "is a cached, correctly predicted taken branch with the branch cache on"
---   Demand3 B   ==  the demand, sentence by sentence
+--   Sound B    ==  what demand 3 needs of a board: every class word has at least 1 clock, exactly 1 in class 0, and no
+--                  BRANCH word is in class 0
+--   isTaken p  ==  the cache predicts taken
+--   joins s r  ==  "keeps the flow and passes the dispatch test"
+--   folds s r  ==  "is a cached, correctly predicted taken branch with the branch cache on"
+--   Demand3 B  ==  the demand, sentence by sentence
 --
--- A sequence of events is any list of retirements, breaks and clears, from any state: "in any sequence with no state loaded between".
+-- A sequence of events is any list of retirements, breaks and clears, from any state: "in any sequence with no state
+-- loaded between".
 use Prim.Native.Nat.{ℕ, _+_, _/_, _≤_}
 use mathlib.Core.Path.{_≡_}
 use mathlib.Core.Logic.{_↔_}
@@ -15,18 +16,18 @@ use mathlib.Core.Bool.{Bool, true, false, not, _&&_, _||_}
 use mathlib.Core.List.{List}
 use lib.ListN.{length}
 use Rattle.class_word.specs.Word.{has, BRANCH}
-use Rattle.slot.specs.declared.Predicted.{Predicted}
-use Rattle.slot.specs.declared.Predicted.the-variants.{Miss, NotTaken, Taken}
-use Rattle.branching.specs.Branch.{takenOf}
+use Rattle.branch_cache.specs.declared.slot.Predicted.{Predicted}
+use Rattle.branch_cache.specs.declared.slot.Predicted.the-variants.{Miss, NotTaken, Taken}
+use Rattle.cost.specs.Branch.{takenOf}
 use Rattle.window.specs.Windows.{shut}
-use Rattle.dispatch.specs.Dispatch.{passes}
-use Rattle.pairing.specs.Cost.{costOf}
-use Rattle.free.specs.Free.{sound}
-use Rattle.step.specs.declared.Retirement.{Retirement}
-use Rattle.step.specs.declared.Event.{Event}
-use Rattle.step.specs.declared.Event.the-variants.{Retired}
-use Rattle.step.specs.Board.{Board}
-use Rattle.step.specs.Events.{State, retiringOf, after, retirements, costs, total}
+use Rattle.window.specs.Dispatch.{passes}
+use Rattle.cost.specs.Cost.{costOf}
+use Rattle.cost.specs.Free.{sound}
+use Rattle.state.specs.declared.Retirement.{Retirement}
+use Rattle.state.specs.declared.Event.{Event}
+use Rattle.state.specs.declared.Event.the-variants.{Retired}
+use Rattle.state.specs.Board.{Board}
+use Rattle.state.specs.Events.{State, retiringOf, after, retirements, costs, total}
 
 abbrev pub Sound : Board → Type 0
 Sound B = (op : ℕ) → sound (B .profile op .word .0) ≡ true

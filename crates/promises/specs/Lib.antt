@@ -1,18 +1,22 @@
 -- The tender's demands and document 01's facts, as statements about the definitions of the crates below.
 --
---   Opcodes       ==  what holds of every opcode's class word
---   Worked        ==  the worked instructions that are proved
---   Retirements   ==  what holds of every retirement, break and clear
---   Demand3       ==  demand 3: time moves
---   Traces        ==  what holds of every run of a trace
---   Batches       ==  what holds of every batch
---   Images        ==  what holds of every state image
---   Determined    ==  one answer at each input
+--   Opcodes      ==  what holds of every opcode's class word
+--   Worked       ==  the worked instructions that are proved
+--   Retirements  ==  what holds of every retirement, break and clear
+--   Demand3      ==  demand 3: time moves
+--   Moving       ==  demand 3 of the crate's board, and of every trace and batch
+--   Traces       ==  what holds of every run of a trace
+--   Batches      ==  what holds of every batch
+--   Images       ==  what holds of every state image
+--   Determined   ==  one answer at each input
+--   ByHand       ==  that of the functions which are proved by a walk by hand
 pub mod Opcodes
 pub mod Worked
 pub mod Retirements
 pub mod Demand3
+pub mod Moving
 pub mod Traces
 pub mod Batches
 pub mod Images
 pub mod Determined
+pub mod ByHand

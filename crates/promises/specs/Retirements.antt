@@ -1,27 +1,28 @@
 -- Document 01, "One retirement": facts of one event on the crate's state, each for every state.
 --
---   Pairs r        ==  r keeps the flow, is no branch, and meets an open window whose dispatch test it passes
---   EveryEvent     ==  the facts
+--   Pairs r     ==  r keeps the flow, is no branch, and meets an open window whose dispatch test it passes
+--   EveryEvent  ==  the facts
 use Prim.Native.Nat.{ℕ, _-_}
 use mathlib.Core.Path.{_≡_}
 use mathlib.Core.Bool.{Bool, true, false}
 use Rattle.class_word.specs.Word.{has, classOf, clocks, BRANCH, VARIABLE, UNCLASSIFIED, «EA_INDEXED»}
-use Rattle.slot.specs.Slot.{hitOf}
+use Rattle.branch_cache.specs.Slot.{hitOf}
 use Rattle.branch_cache.specs.Cache.{slotAt, slotOf, cacheUpdateOf, clearAllOf, clearUserOf}
-use Rattle.dispatch.specs.declared.Instruction.{Instruction}
-use Rattle.dispatch.specs.declared.Controls.{Controls}
+use Rattle.window.specs.declared.dispatch.Instruction.{Instruction}
+use Rattle.window.specs.declared.dispatch.Controls.{Controls}
 use Rattle.window.specs.declared.Window.{Window}
-use Rattle.pairing.specs.Retiring.{Retiring}
+use Rattle.cost.specs.Retiring.{Retiring}
 use Rattle.window.specs.Windows.{shut, seen}
-use Rattle.dispatch.specs.Dispatch.{passes}
-use Rattle.pairing.specs.Cost.{costOf, baseOf}
+use Rattle.window.specs.Dispatch.{passes}
+use Rattle.cost.specs.Cost.{costOf, baseOf}
 use Rattle.branch_cache.specs.declared.BranchCache060.{BranchCache060}
-use Rattle.step.specs.declared.Oep060Timing.{Oep060Timing}
-use Rattle.step.specs.declared.Retirement.{Retirement}
-use Rattle.step.specs.declared.Event.the-variants.{Retired, Broken, ClearedAll, ClearedUser}
-use Rattle.step.specs.Events.{retiringOf}
-use Rattle.step.specs.Step.{stateOf}
-use Rattle.board.specs.Crate.{crateBoard, steppedOf, afterOf}
+use Rattle.state.specs.declared.Oep060Timing.{Oep060Timing}
+use Rattle.state.specs.declared.Retirement.{Retirement}
+use Rattle.state.specs.declared.Event.the-variants.{Retired, Broken, ClearedAll, ClearedUser}
+use Rattle.state.specs.Events.{retiringOf}
+use Rattle.state.specs.Timing.{stateOf}
+use Rattle.step.specs.CrateBoard.{crateBoard, steppedOf, afterOf}
+use Rattle.branch_cache.specs.declared.slot.Slot.{Slot}
 
 pub record Pairs (r : Retiring) : Type 0 where
   pub straight : has (r .instruction .word .0) BRANCH ≡ false
@@ -31,16 +32,22 @@ pub record Pairs (r : Retiring) : Type 0 where
 
 pub record EveryEvent : Type 0 where
   -- the promise of `cycles_060` is the machine's step: its cost, and the state after the retirement
-  pub stepCost : (t : Oep060Timing) (r : Retirement) → steppedOf t r .cost ≡ clocks (costOf (retiringOf crateBoard (stateOf t) r))
+  pub stepCost : (t : Oep060Timing) (r : Retirement)
+      → steppedOf t r .cost ≡ clocks (costOf (retiringOf crateBoard (stateOf t) r))
   pub stepState : (t : Oep060Timing) (r : Retirement) → steppedOf t r .timing ≡ afterOf t (Retired r)
-  -- "window shut, base less 1 (always 0)": over any class word the base less 1, never below 0; over the crate's always 0
+  -- "window shut, base less 1 (always 0)": over any class word the base less 1, never below 0; over the crate's always
+  -- 0
   pub pairCost : (r : Retiring) → Pairs r → costOf r ≡ baseOf (r .instruction) (r .controls) - 1
-  pub pairCostsNothing : (t : Oep060Timing) (r : Retirement) → Pairs (retiringOf crateBoard (stateOf t) r) → costOf (retiringOf crateBoard (stateOf t) r) ≡ 0
+  pub pairCostsNothing : (t : Oep060Timing) (r : Retirement) → Pairs (retiringOf crateBoard (stateOf t) r)
+      → costOf (retiringOf crateBoard (stateOf t) r) ≡ 0
   -- the dispatch test leaves only class 0 words that are neither indexed, unclassified nor variable
   pub passingClass : (i : Instruction) (k : Controls) (w : Window) → passes i k w ≡ true → classOf (i .word .0) ≡ 0
-  pub passingUnindexed : (i : Instruction) (k : Controls) (w : Window) → passes i k w ≡ true → has (i .word .0) «EA_INDEXED» ≡ false
-  pub passingClassified : (i : Instruction) (k : Controls) (w : Window) → passes i k w ≡ true → has (i .word .0) UNCLASSIFIED ≡ false
-  pub passingFixed : (i : Instruction) (k : Controls) (w : Window) → passes i k w ≡ true → has (i .word .0) VARIABLE ≡ false
+  pub passingUnindexed : (i : Instruction) (k : Controls) (w : Window) → passes i k w ≡ true
+      → has (i .word .0) «EA_INDEXED» ≡ false
+  pub passingClassified : (i : Instruction) (k : Controls) (w : Window) → passes i k w ≡ true
+      → has (i .word .0) UNCLASSIFIED ≡ false
+  pub passingFixed : (i : Instruction) (k : Controls) (w : Window) → passes i k w ≡ true
+      → has (i .word .0) VARIABLE ≡ false
   -- "A break shuts the window in place and touches nothing else."
   pub breakKeepsCache : (t : Oep060Timing) → afterOf t Broken .cache ≡ t .cache
   pub breakShuts : (t : Oep060Timing) → afterOf t Broken .window ≡ shut
@@ -50,4 +57,7 @@ pub record EveryEvent : Type 0 where
   pub clearUserKeepsTags : (t : Oep060Timing) → afterOf t ClearedUser .cache .tags ≡ t .cache .tags
   pub clearUserKeepsWindow : (t : Oep060Timing) → afterOf t ClearedUser .window ≡ seen (t .window)
   -- "a not-taken miss changes nothing"
-  pub missKeeps : (c : BranchCache060) (pc : ℕ) → hitOf (slotAt c (slotOf pc)) pc ≡ false → (user : Bool) → cacheUpdateOf c pc false user ≡ c
+  pub missKeeps : (c : BranchCache060) (pc : ℕ) → hitOf (slotAt c (slotOf pc)) pc ≡ false → (user : Bool)
+      → cacheUpdateOf c pc false user ≡ c
+  -- "a tag in a foreign slot never hits"
+  pub foreignMisses : (slot : Slot) (pc : ℕ) → (slotOf (slot .tag) ≡ slotOf pc → ⊥) → hitOf slot pc ≡ false

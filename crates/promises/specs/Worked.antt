@@ -1,10 +1,10 @@
 -- Document 01, "Worked instructions": the cases marked P, as one table.
 --
---   Example                         ==  `op is w` gives an opcode its class word, `op is w uses u defines d` its two masks too
---   holdsOf example                 ==  the definitions give these words
---   allHold examples                ==  each of them holds
---   examples                        ==  the table, in document 01's order
---   Worked                          ==  every line of the table holds
+--   Example           ==  `op is w` gives an opcode its class word, `op is w uses u defines d` its two masks too
+--   holdsOf example   ==  the definitions give these words
+--   allHold examples  ==  each of them holds
+--   examples          ==  the table, in document 01's order
+--   Worked            ==  every line of the table holds
 use Prim.Native.Nat.{ℕ}
 use mathlib.Core.Path.{_≡_}
 use mathlib.Core.Bool.{Bool, true, _&&_}

@@ -5,15 +5,16 @@ use mathlib.Core.Path.{_≡_, refl, sym, ap, _∙_}
 use native.Mathlib.Nat.{zero-add}
 use mathlib.Core.List.{List, [], _∷_}
 use native.Mathlib.Omega.{arith}
-use Rattle.step.specs.declared.Event.{Event}
-use Rattle.step.specs.declared.Event.the-variants.{Retired, Broken, ClearedAll, ClearedUser}
+use Rattle.state.specs.declared.Event.{Event}
+use Rattle.state.specs.declared.Event.the-variants.{Retired, Broken, ClearedAll, ClearedUser}
 use Rattle.refusals.specs.declared.Refusal.{Refusal}
-use Rattle.record.specs.declared.Read.the-variants.{Got, Bad, End}
+use Rattle.records.specs.declared.record.Read.the-variants.{Got, Bad, End}
 use Rattle.records.specs.declared.Checked.{Checked}
 use Rattle.records.specs.declared.Checked.the-variants.{Sound, Unsound}
-use Rattle.record.specs.Record.{readAt}
-use Rattle.records.specs.Trace.{Trace, events, refused, ahead, readFrom, countOf, checkedOf}
+use Rattle.records.specs.Record.{readAt}
+use Rattle.records.specs.Trace.{Trace, events, refused, ahead, readFrom, checkedOf}
 use Rattle.records.proofs.Walking.{from-end, from-bad, from-got}
+use Rattle.state.specs.Events.{countOf}
 
 pub count-cons : (e : Event) (es : List Event) → countOf (e ∷ es) ≡ countOf (e ∷ []) + countOf es
 count-cons (Retired r) es = omega arith

@@ -4,9 +4,9 @@ use Prim.Native.Nat.{ℕ, _+_}
 use mathlib.Core.List.{List, _++_, append-assoc, append-nil}
 use native.Mathlib.Nat.{add-zero}
 use lib.ListN.{length, length-append}
-use Rattle.step.specs.declared.Event.{Event}
-use Rattle.record.proofs.Alike.{whole-front, whole-behind}
-use Rattle.records.specs.Table.{Reached, start, past}
+use Rattle.state.specs.declared.Event.{Event}
+use Rattle.records.proofs.Alike.{whole-front, whole-behind}
+use Rattle.records.specs.TraceTable.{Reached, start, past}
 
 module _ (a b : List ℕ) where
   reached-front : {at : ℕ} {es : List Event} → Reached a at es → Reached (a ++ b) at es

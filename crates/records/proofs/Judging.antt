@@ -6,14 +6,15 @@ use mathlib.Core.List.{List, [], _∷_}
 use native.Mathlib.Omega.{arith}
 use lib.ListN.{length}
 use borrow.Author.Tests.{lt-ltb, le-ltb}
-use Rattle.step.specs.declared.Event.{Event}
+use Rattle.state.specs.declared.Event.{Event}
 use Rattle.refusals.specs.declared.Refusal.{Refusal}
 use Rattle.refusals.specs.declared.Refusal.the-variants.{Oversized, Room}
 use Rattle.refusals.specs.declared.Verdict.the-variants.{Accepted, Refused}
 use Rattle.records.specs.declared.Checked.the-variants.{Sound, Unsound}
-use Rattle.records.specs.Trace.{Trace, events, refused, ahead, readTrace, countOf, checkedOf}
-use Rattle.records.specs.Judged.{Fits, withRoom, judged, verdictOf}
+use Rattle.records.specs.Trace.{Trace, events, refused, ahead, readTrace, checkedOf}
+use Rattle.records.specs.Judged.{Fits, withRoom, judgedTrace, verdictOf}
 use Rattle.records.proofs.Counting.{count-cons}
+use Rattle.state.specs.Events.{countOf}
 
 faulty : (size room : ℕ) (said : Trace) {refusal : Refusal} → checkedOf said ≡ Unsound refusal → withRoom size room said ≡ refused refusal
 faulty size room (events es) q = cc
@@ -32,23 +33,23 @@ sound size room (events es) {k} q h =
 sound size room (refused other) q h = cc
 
 module _ (trace : List ℕ) (room : ℕ) where
-  pub too-long : 16777216 < length trace → Refused Oversized ≡ verdictOf (judged trace room)
-  unfolding judged
+  pub too-long : 16777216 < length trace → Refused Oversized ≡ verdictOf (judgedTrace trace room)
+  unfolding judgedTrace
   too-long h = simp (lt-ltb _ _ h)
 
   module _ (h : length trace ≤ 16777216) where
-    judge : judged trace room ≡ withRoom (length trace) room (readTrace trace)
-    unfolding judged
+    judge : judgedTrace trace room ≡ withRoom (length trace) room (readTrace trace)
+    unfolding judgedTrace
     judge = simp (le-ltb _ _ h)
 
-    pub not-sound : {refusal : Refusal} → checkedOf (readTrace trace) ≡ Unsound refusal → Refused refusal ≡ verdictOf (judged trace room)
+    pub not-sound : {refusal : Refusal} → checkedOf (readTrace trace) ≡ Unsound refusal → Refused refusal ≡ verdictOf (judgedTrace trace room)
     not-sound q = sym (ap verdictOf (judge ∙ faulty (length trace) room (readTrace trace) q))
 
     module _ {k : ℕ} (found : checkedOf (readTrace trace) ≡ Sound k) where
-      pub no-room : room / 4 < k → Refused (Room (length trace)) ≡ verdictOf (judged trace room)
+      pub no-room : room / 4 < k → Refused (Room (length trace)) ≡ verdictOf (judgedTrace trace room)
       no-room l = sym (ap verdictOf (judge ∙ full (length trace) room (readTrace trace) found l))
 
-      pub all-sound : k ≤ room / 4 → Accepted ≡ verdictOf (judged trace room)
+      pub all-sound : k ≤ room / 4 → Accepted ≡ verdictOf (judgedTrace trace room)
       all-sound l = sound (length trace) room (readTrace trace) found l ∙ sym (ap verdictOf judge)
 
 pub fits-ahead : (k room : ℕ) (e : Event) (said : Trace) → Fits k room (ahead e said) → Fits (k + countOf (e ∷ [])) room said

@@ -1,3 +1,9 @@
+pub mod FaultsLaws
+pub mod Choices
+pub mod KindNumbers
+pub mod Reading
+pub mod RecordRows
+pub mod Alike
 pub mod Walking
 pub mod Counting
 pub mod Judging

@@ -7,20 +7,23 @@ use native.Mathlib.Omega.{arith}
 use lib.Dec.{ltb}
 use lib.ListN.{length}
 use borrow.Author.Tests.{lt-ltb, le-ltb, ltb-true, ltb-false}
-use Rattle.step.specs.declared.Event.{Event}
+use Rattle.state.specs.declared.Event.{Event}
 use Rattle.refusals.specs.declared.Refusal.{Refusal}
 use Rattle.refusals.specs.declared.Verdict.the-variants.{Accepted, Refused}
-use Rattle.record.specs.declared.Read.{Read}
-use Rattle.record.specs.declared.Read.the-variants.{Got, Bad, End}
-use Rattle.record.specs.Record.{remaining, readAt}
-use Rattle.records.specs.Trace.{Trace, events, refused, ahead, readFrom, readTrace, countOf}
-use Rattle.records.specs.Judged.{withRoom, judged, verdictOf, Fits}
-use Rattle.record.specs.Table.{Faulty}
-use Rattle.records.specs.Table.{Reached, start, past, Refuses, row1, rows2to6, row7, Accepts}
-use Rattle.record.proofs.Choices.{by-test}
-use Rattle.record.proofs.Reading.{read-end}
+use Rattle.records.specs.declared.record.Read.{Read}
+use Rattle.records.specs.declared.record.Read.the-variants.{Got, Bad, End}
+use Rattle.records.specs.Record.{remaining, readAt}
+use Rattle.records.specs.Trace.{Trace, events, refused, ahead, readFrom, readTrace}
+use Rattle.records.specs.Judged.{withRoom, judgedTrace, verdictOf, Fits}
+use Rattle.records.specs.TraceTable.{Reached, start, past, Refuses, row1, rows2to6, row7, Accepts}
+use Rattle.records.proofs.Choices.{by-test}
+use Rattle.records.proofs.Reading.{read-end}
 use Rattle.records.proofs.Walking.{got-within, from-end, from-bad, from-got}
-use Rattle.record.proofs.Records.{faulty-then, whole-then, faulty-only, whole-only, read-explained, Explained}
+use Rattle.records.proofs.RecordRows.{faulty-then, whole-then, faulty-only, whole-only, read-explained, Explained}
+use Rattle.state.specs.Events.{countOf}
+use Rattle.refusals.specs.Refusals.{numberOf, placeOf}
+use Rattle.refusals.proofs.Told.{Told}
+use Rattle.refusals.specs.declared.Refusal.the-variants.{Oversized, Room}
 
 -- events in front of what follows them
 abbrev before : List Event → Trace → Trace
@@ -53,14 +56,14 @@ module _ (trace : List ℕ) where
   pub sound-then : {es : List Event} → Reached trace (length trace) es → readTrace trace ≡ events es
   sound-then {es} h = reached-reads h ∙ ap (before es) (from-end trace (length trace) (read-end trace (length trace) (omega arith))) ∙ before-none es
 
-  faulty-reads : {at : ℕ} {es : List Event} {refusal : Refusal} → Reached trace at es → Faulty trace at refusal → readTrace trace ≡ refused refusal
-  faulty-reads {at} {es} {refusal} h f = reached-reads h ∙ ap (before es) (from-bad trace at refusal (faulty-then trace at f)) ∙ before-refused es refusal
+  faulty-reads : {at : ℕ} {es : List Event} {refusal : Refusal} → Reached trace at es → readAt trace at ≡ Bad refusal → readTrace trace ≡ refused refusal
+  faulty-reads {at} {es} {refusal} h f = reached-reads h ∙ ap (before es) (from-bad trace at refusal f) ∙ before-refused es refusal
 
   module _ (room : ℕ) where
     -- what is reached where the reading ends
     abbrev Ends : List Event → Trace → Type 0
     Ends es (events fs) = Reached trace (length trace) (es ++ fs)
-    Ends es (refused refusal) = length trace ≤ 16777216 → Refuses trace room refusal
+    Ends es (refused refusal) = length trace ≤ 16777216 → Refuses trace room (numberOf refusal) (placeOf refusal)
 
     ends-ahead : (es : List Event) (e : Event) (t : Trace) → Ends (es ++ e ∷ []) t → Ends es (ahead e t)
     ends-ahead es e (events fs) h = rw append-assoc at h
@@ -75,7 +78,7 @@ module _ (trace : List ℕ) where
         → ((e : Event) (next : ℕ) → readAt trace at ≡ Got e next → Ends (es ++ e ∷ []) (readFrom trace next))
         → (r : Read) → readAt trace at ≡ r → Ends es (readFrom trace at)
     turn {at} {es} h rest End q = subst (Ends es) (sym (from-end trace at q)) (ends-here h (subst (Explained trace at) q (read-explained trace at)))
-    turn {at} {es} h rest (Bad refusal) q = subst (Ends es) (sym (from-bad trace at refusal q)) (λ size. rows2to6 size h (faulty-only trace at q))
+    turn {at} {es} h rest (Bad refusal) q = subst (Ends es) (sym (from-bad trace at refusal q)) (λ size. let f = faulty-only trace at q in subst (Refuses trace room (numberOf refusal)) (sym (f .1)) (rows2to6 size h (f .0)))
     turn {at} {es} h rest (Got e next) q = subst (Ends es) (sym (from-got trace at e next q)) (ends-ahead es e (readFrom trace next) (rest e next q))
 
     walk : (most : ℕ) {at : ℕ} {es : List Event} → Reached trace at es → remaining trace at ≤ most → Ends es (readFrom trace at)
@@ -89,20 +92,22 @@ module _ (trace : List ℕ) where
     ends = walk (length trace) start (omega arith)
 
     -- then
-    pub refuses-then : {refusal : Refusal} → Refuses trace room refusal → judged trace room ≡ refused refusal
-    unfolding judged
-    refuses-then (row1 h) = simp (lt-ltb _ _ h)
-    refuses-then (rows2to6 size h f) = rw (le-ltb _ _ size, faulty-reads h f)
-    refuses-then (row7 size h l) = rw (le-ltb _ _ size, sound-then h, lt-ltb _ _ l)
+    pub refuses-then : {n p : ℕ} → Refuses trace room n p → Told n p (λ refusal. judgedTrace trace room ≡ refused refusal)
+    unfolding judgedTrace
+    refuses-then (row1 h) = record { refusal = Oversized; number = refl; place = refl; so = simp (lt-ltb _ _ h) }
+    refuses-then (rows2to6 {at} size h f) =
+        let t = faulty-then trace at f in
+        record { refusal = t .refusal; number = t .number; place = t .place; so = rw (le-ltb _ _ size, faulty-reads h (t .so)) }
+    refuses-then (row7 size h l) = record { refusal = Room (length trace); number = refl; place = refl; so = rw (le-ltb _ _ size, sound-then h, lt-ltb _ _ l) }
 
-    pub accepts-then : {es : List Event} → Accepts trace room es → judged trace room ≡ events es
-    unfolding judged
+    pub accepts-then : {es : List Event} → Accepts trace room es → judgedTrace trace room ≡ events es
+    unfolding judgedTrace
     accepts-then a = rw (le-ltb _ _ (a .size), sound-then (a .records), le-ltb _ _ (a .enough))
 
-    -- only then: what the run is judged to be, by the table
+    -- only then: what the trace is judged to say, by the table
     abbrev Judged : Trace → Type 0
     Judged (events es) = Accepts trace room es
-    Judged (refused refusal) = Refuses trace room refusal
+    Judged (refused refusal) = Refuses trace room (numberOf refusal) (placeOf refusal)
 
     with-room : (t : Trace) → length trace ≤ 16777216 → Ends [] t → Judged (withRoom (length trace) room t)
     with-room (events es) size h =
@@ -110,21 +115,21 @@ module _ (trace : List ℕ) where
         (λ l. record { size = size; records = h; enough = ltb-false _ _ l })
     with-room (refused refusal) size h = h size
 
-    judged-so : Judged (judged trace room)
-    unfolding judged
+    judged-so : Judged (judgedTrace trace room)
+    unfolding judgedTrace
     judged-so =
         by-test Judged (ltb 16777216 (length trace)) _ _ (λ l. row1 (ltb-true _ _ l))
         (λ l. with-room (readTrace trace) (ltb-false _ _ l) ends)
 
-    pub refuses-only : {refusal : Refusal} → judged trace room ≡ refused refusal → Refuses trace room refusal
+    pub refuses-only : {refusal : Refusal} → judgedTrace trace room ≡ refused refusal → Refuses trace room (numberOf refusal) (placeOf refusal)
     refuses-only q = subst Judged q judged-so
 
-    pub accepts-only : {es : List Event} → judged trace room ≡ events es → Accepts trace room es
+    pub accepts-only : {es : List Event} → judgedTrace trace room ≡ events es → Accepts trace room es
     accepts-only q = subst Judged q judged-so
 
     -- what a verdict tells of the trace
-    pub refused-so : {refusal : Refusal} → verdictOf (judged trace room) ≡ Refused refusal → judged trace room ≡ refused refusal
-    refused-so {refusal} = go (judged trace room)
+    pub refused-so : {refusal : Refusal} → verdictOf (judgedTrace trace room) ≡ Refused refusal → judgedTrace trace room ≡ refused refusal
+    refused-so {refusal} = go (judgedTrace trace room)
       where
         go : (x : Trace) → verdictOf x ≡ Refused refusal → x ≡ refused refusal
         go (events es) h = cc
@@ -133,12 +138,12 @@ module _ (trace : List ℕ) where
     pub record Taken : Type 0 where
       pub size : length trace ≤ 16777216
       pub fits : Fits 0 room (readTrace trace)
-      pub same : judged trace room ≡ readTrace trace
+      pub same : judgedTrace trace room ≡ readTrace trace
 
-    pub taken-so : verdictOf (judged trace room) ≡ Accepted → Taken
-    taken-so = go (judged trace room) refl
+    pub taken-so : verdictOf (judgedTrace trace room) ≡ Accepted → Taken
+    taken-so = go (judgedTrace trace room) refl
       where
-        go : (x : Trace) → judged trace room ≡ x → verdictOf x ≡ Accepted → Taken
+        go : (x : Trace) → judgedTrace trace room ≡ x → verdictOf x ≡ Accepted → Taken
         go (events es) q h =
             let a = accepts-only q in
             let s = sound-then (a .records) in

@@ -5,14 +5,15 @@ use mathlib.Core.Path.{_≡_, refl, sym, ap, _∙_}
 use mathlib.Core.List.{List, [], _∷_}
 use native.Mathlib.Omega.{arith}
 use lib.ListN.{length}
-use Rattle.step.specs.declared.Event.{Event}
-use Rattle.step.specs.declared.Event.the-variants.{Retired, Broken, ClearedAll, ClearedUser}
+use Rattle.state.specs.declared.Event.{Event}
+use Rattle.state.specs.declared.Event.the-variants.{Retired, Broken, ClearedAll, ClearedUser}
 use Rattle.refusals.specs.declared.Refusal.{Refusal}
-use Rattle.record.specs.declared.Read.{Read}
-use Rattle.record.specs.declared.Read.the-variants.{Got, Bad, End}
-use Rattle.record.specs.Record.{remaining, readAt}
-use Rattle.records.specs.Trace.{Trace, events, refused, ahead, goOn, readIn, readFrom, countOf}
-use Rattle.record.proofs.Reading.{read-end, got-ends}
+use Rattle.records.specs.declared.record.Read.{Read}
+use Rattle.records.specs.declared.record.Read.the-variants.{Got, Bad, End}
+use Rattle.records.specs.Record.{remaining, readAt}
+use Rattle.records.specs.Trace.{Trace, events, refused, ahead, goOn, readIn, readFrom}
+use Rattle.records.proofs.Reading.{read-end, got-ends}
+use Rattle.state.specs.Events.{countOf}
 
 -- a record that was read takes 4 bytes, and 16 more if it is a retirement, and ends within the trace
 pub got-within : (trace : List ℕ) (at : ℕ) (e : Event) (next : ℕ) → readAt trace at ≡ Got e next

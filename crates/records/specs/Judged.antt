@@ -1,10 +1,12 @@
--- Document 01, "Records and images": whether a trace is taken, by its size, its records and the room for its costs. The Rust has none.
+-- Document 01, "Records and images": whether a trace is taken, by its size, its records and the room for its costs. The
+-- Rust has none.
 --
---   withRoom size room said    ==  what a trace of this size said, or refusal 7         "under 4 bytes a retirement"; place "trace length"
---   judged trace room          ==  what the trace says, refusals by size included       "Trace order: 1; then record by record 2 to 6;
---                                                                                       7 after all records"
---   verdictOf said             ==  the verdict by what the trace said
---   Fits written room said     ==  the rest of a trace has room behind so many costs that are written already
+--   withRoom size room said  ==  what a trace of this size said, or refusal 7
+--                                "under 4 bytes a retirement"; place "trace length"
+--   judgedTrace trace room   ==  what the trace says, refusals by size included
+--                                "Trace order: 1; then record by record 2 to 6; 7 after all records"
+--   verdictOf said           ==  the verdict by what the trace said
+--   Fits written room said   ==  the rest of a trace has room behind so many costs that are written already
 use Prim.Native.Nat.{ℕ, _+_, _*_, _≤_}
 use mathlib.Core.Bool.{cond}
 use mathlib.Core.List.{List}
@@ -13,14 +15,16 @@ use lib.ListN.{length}
 use Rattle.refusals.specs.declared.Refusal.the-variants.{Oversized, Room}
 use Rattle.refusals.specs.declared.Verdict.{Verdict}
 use Rattle.refusals.specs.declared.Verdict.the-variants.{Accepted, Refused}
-use Rattle.records.specs.Trace.{Trace, events, refused, readTrace, countOf}
+use Rattle.records.specs.Trace.{Trace, events, refused, readTrace}
+use Rattle.state.specs.Events.{countOf}
 
 abbrev pub withRoom : ℕ → ℕ → Trace → Trace
 withRoom size room (events es) = cond (ltb room (4 * countOf es)) (refused (Room size)) (events es)
 withRoom size room (refused refusal) = refused refusal
 
-unfoldable pub judged : List ℕ → ℕ → Trace
-judged trace room = cond (ltb 16777216 (length trace)) (refused Oversized) (withRoom (length trace) room (readTrace trace))
+unfoldable pub judgedTrace : List ℕ → ℕ → Trace
+judgedTrace trace room = cond (ltb 16777216 (length trace)) (refused Oversized) (withRoom
+    (length trace) room (readTrace trace))
 
 abbrev pub verdictOf : Trace → Verdict
 verdictOf (events es) = Accepted

@@ -1,15 +1,27 @@
-// Part 6 of document 01: the records of a whole trace, all of which are checked before any is run.
+// Part 6 of document 01: what a trace says, record by record, and whether it is taken.
+//
+// `kinds` has the kinds of records, `layout` their bytes, `faults` what is wrong with one, and `record` reads what
+// stands at a place. Here all records of a trace are checked before any is run, since a refused run writes nothing.
+mod faults;
+mod kinds;
+mod layout;
+mod record;
+
+pub use kinds::Kind;
+pub use kinds::KindRead;
+pub use record::Read;
+pub use record::read_record;
 ghost use mathlib.Core.Path.{_≡_};
 ghost use mathlib.Core.List.{[], _∷_};
-ghost use Rattle.records.specs.Trace.{checkedOf, countOf, readTrace};
-ghost use Rattle.records.specs.Judged.{judged, verdictOf};
-use record::Read;
+ghost use Rattle.records.specs.Trace.{checkedOf, readTrace};
+ghost use Rattle.records.specs.Judged.{judgedTrace, verdictOf};
+ghost use Rattle.state.specs.Events.{countOf};
 use refusals::Refusal;
 use refusals::Verdict;
-use step::Event;
+use state::Event;
 
 // The longest trace that is taken.
-const MOST_BYTES: usize = 16777216;
+const MOST_TRACE_BYTES: usize = 16777216;
 
 // What a check of all records finds: the number of retirements, or the first refusal.
 pub enum Checked {
@@ -53,10 +65,10 @@ fn check_all(trace: &[u8]) -> Checked
 }
 
 // Whether a trace is taken with so many bytes lent for its costs, 4 for each retirement.
-pub fn judge(trace: &[u8], room: usize) -> Verdict
-    ensures { λ r. ⌜ r ≡ verdictOf (judged (now (trace .entry)) room) ⌝ }
+pub fn judge_trace(trace: &[u8], room: usize) -> Verdict
+    ensures { λ r. ⌜ r ≡ verdictOf (judgedTrace (now (trace .entry)) room) ⌝ }
 {
-    if MOST_BYTES < trace.len() {
+    if MOST_TRACE_BYTES < trace.len() {
         return Verdict::Refused(Refusal::Oversized);
     }
     let checked = check_all(trace);

@@ -1,4 +1,11 @@
-// The refusals of document 01, each with its number and its place, and a verdict.
+// Part 6 of document 01: the refusals, each with its number and its place, and the verdict.
+//
+// The table's two columns are here, and `outcome` has what a run of a trace or a batch gives, refused or not. When a
+// refusal is given is said where it is tested: in `records`, `batch`, `image`, and in `listing` for its own limit.
+mod outcome;
+
+pub use outcome::Ran;
+pub use outcome::refused;
 ghost use mathlib.Core.Path.{_≡_};
 ghost use Rattle.refusals.specs.Refusals.{numberOf, placeOf};
 
@@ -8,9 +15,9 @@ pub enum Refusal {
     // 1 to 3 bytes remain at the record's start.
     Remainder(usize),
     // The record's kind is not one of the paper's.
-    Kind(usize),
+    WrongKind(usize),
     // The record's length is not its kind's.
-    Length(usize),
+    WrongLength(usize),
     // The record's payload is cut.
     Cut(usize),
     // A flag above bit 4 is set.
@@ -37,8 +44,8 @@ pub fn number(refusal: Refusal) -> u8
     match refusal {
         Refusal::Oversized => 1,
         Refusal::Remainder(_) => 2,
-        Refusal::Kind(_) => 3,
-        Refusal::Length(_) => 4,
+        Refusal::WrongKind(_) => 3,
+        Refusal::WrongLength(_) => 4,
         Refusal::Cut(_) => 5,
         Refusal::Flag(_) => 6,
         Refusal::Room(_) => 7,
@@ -54,8 +61,8 @@ pub fn place(refusal: Refusal) -> usize
     match refusal {
         Refusal::Oversized => 0,
         Refusal::Remainder(at) => at,
-        Refusal::Kind(at) => at,
-        Refusal::Length(at) => at,
+        Refusal::WrongKind(at) => at,
+        Refusal::WrongLength(at) => at,
         Refusal::Cut(at) => at,
         Refusal::Flag(at) => at,
         Refusal::Room(at) => at,

@@ -1,4 +1,7 @@
-// The replay: an image and a trace from standard input; the listing from that state, and the next state's image, to standard output.
+// The replay: an image and a trace from standard input; the listing from that state, and the next state's image, to
+// standard output.
+//
+// `input` reads, `replaying` makes the text, and what cannot be read is said on standard error.
 use input::Input;
 use libc::STDERR_FILENO;
 use libc::STDOUT_FILENO;

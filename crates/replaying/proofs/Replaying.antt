@@ -10,32 +10,31 @@ use lib.ListN.{length, take, drop, length-append, length-drop, drop-of-length-le
 use lib.Seq.{take-all}
 use lib.Dec.{ltb}
 use borrow.Author.Tests.{le-ltb, ltb-true, ltb-false}
-use Rattle.little_endian.specs.Numbers.{bytesOf, putAt}
+use Rattle.little_endian.specs.Numbers.{bytesOf, putAt, bytesOfEach}
 use Rattle.text.specs.Written.{textOf, written, writtenOf}
 use Rattle.text.proofs.Writing.{wrote, wrote-more, wrote-whole}
 use Rattle.window.specs.Windows.{seen}
-use Rattle.step.specs.declared.Event.{Event}
-use Rattle.step.specs.declared.Oep060Timing.{Oep060Timing}
+use Rattle.state.specs.declared.Event.{Event}
+use Rattle.state.specs.declared.Oep060Timing.{Oep060Timing}
 use Rattle.refusals.specs.declared.Refusal.{Refusal}
 use Rattle.refusals.specs.declared.Verdict.{Verdict}
 use Rattle.refusals.specs.declared.Verdict.the-variants.{Accepted, Refused}
 use Rattle.records.specs.Trace.{Trace, events, refused}
-use Rattle.image_bytes.specs.Bytes.{bytesOfEach, headerBytes, windowBytes}
-use Rattle.image_bytes.proofs.Numbers.{each-length}
-use Rattle.image_bytes.proofs.Writing.{header-length}
+use Rattle.image.specs.Bytes.{headerBytes, windowBytes}
+use Rattle.image.proofs.ImageBytesWriting.{header-length}
 use Rattle.image.specs.declared.ImageWritten.{ImageWritten}
 use Rattle.image.specs.declared.ImageRead.{ImageRead}
 use Rattle.image.specs.Image.{imageOf}
-use Rattle.image.specs.Entries as image
-use Rattle.image.specs.Entries.{imageWriteOf, imageReadOf}
-use Rattle.lines.specs.Lines.{refusalLine}
+use Rattle.image.specs.Entries.{imageOutcome, ImageOutcome, imageWriteOf, imageReadOf}
+use Rattle.listing.specs.Lines.{refusalLine}
 use Rattle.listing.specs.declared.Listed.{Listed}
-use Rattle.listing.specs.Listing.{Outcome, outcome, outcomeBy, judgedOf, tableOf}
+use Rattle.listing.specs.Listing.{ListingOutcome, listingOutcome, listingOutcomeBy, shortTraceOf, tableOf}
 use Rattle.listing.proofs.Within.{text-fits, listed-text}
-use Rattle.rows.specs.Rows.{hexRows}
+use Rattle.replaying.specs.HexLines.{hexRows}
 use Rattle.replaying.specs.Replay.{imageIn, traceIn, imageLines, shown, replayBy, replayOf}
-use Rattle.replaying.specs.Inner.{printedBy, printed}
-use Rattle.rows.proofs.Rows.{rows-length}
+use Rattle.replaying.specs.Inner.{replayedBy, replayed}
+use Rattle.replaying.proofs.Rows.{rows-length}
+use Rattle.little_endian.proofs.Each.{each-length}
 
 -- ---- the image that is written
 image-long : (t : Oep060Timing) → length (t .cache .tags) ≡ 256 → length (t .cache .state) ≡ 256 → length (imageOf t) ≡ 1288
@@ -54,26 +53,26 @@ image-long t a b =
     )
 
 pub image-fills : (t : Oep060Timing) (lent : List ℕ) → length lent ≡ 1288 → length (t .cache .tags) ≡ 256 → length (t .cache .state) ≡ 256
-    → {w : ImageWritten} {bytes : List ℕ} → image.outcome w bytes ≡ imageWriteOf t lent → bytes ≡ imageOf t
+    → {w : ImageWritten} {bytes : List ℕ} → imageOutcome w bytes ≡ imageWriteOf t lent → bytes ≡ imageOf t
 unfolding imageWriteOf putAt
 image-fills t lent l a b e =
     let n = image-long t a b in
-    let q = simp (le-ltb (length lent) 1288 (omega arith)) at (ap (λ (o : image.Outcome). o .lent) e) in
+    let q = simp (le-ltb (length lent) 1288 (omega arith)) at (ap (λ (o : ImageOutcome). o .lent) e) in
     q ∙ rw (drop-of-length-le lent {i = 0 + length (imageOf t)} (omega arith)) (append-nil (imageOf t))
 
 -- ---- the text
 pub shown-refused : (said : Trace) (out : List ℕ) (t : Oep060Timing) {r : Listed} {after : List ℕ} {refusal : Refusal}
-    → outcome r after ≡ outcomeBy said out t → r .verdict ≡ Refused refusal → written (r .len) after ≡ writtenOf out 0 (shown said t)
+    → listingOutcome r after ≡ listingOutcomeBy said out t → r .verdict ≡ Refused refusal → written (r .len) after ≡ writtenOf out 0 (shown said t)
 shown-refused (refused other) out t e v = listed-text (refused other) out t e
 shown-refused (events es) out t e v =
-    let u = ap (λ (o : Outcome). o .answer .verdict) e in
+    let u = ap (λ (o : ListingOutcome). o .answer .verdict) e in
     let z : _≡_ {A = ℕ} 0 1 = cc in
     absurd (omega arith)
 
 never : (refusal : Refusal) (out : List ℕ) (t : Oep060Timing) {r : Listed} {after : List ℕ}
-    → outcome r after ≡ outcomeBy (refused refusal) out t → r .verdict ≡ Accepted → ⊥
+    → listingOutcome r after ≡ listingOutcomeBy (refused refusal) out t → r .verdict ≡ Accepted → ⊥
 never refusal out t e v =
-    let u = ap (λ (o : Outcome). o .answer .verdict) e in
+    let u = ap (λ (o : ListingOutcome). o .answer .verdict) e in
     let z : _≡_ {A = ℕ} 0 1 = cc in
     omega arith
 
@@ -82,41 +81,41 @@ abbrev Bound : Trace → Oep060Timing → Type 0
 Bound said t = (es : List Event) → said ≡ events es → length (tableOf es t) ≤ 65588
 
 short : (said : Trace) (out : List ℕ) (t : Oep060Timing) → Bound said t → {r : Listed} {after : List ℕ}
-    → outcome r after ≡ outcomeBy said out t → r .verdict ≡ Accepted → r .len ≤ 65588
-short (events es) out t f e v = omega (arith, f es refl, ap (λ (o : Outcome). o .answer .len) e)
+    → listingOutcome r after ≡ listingOutcomeBy said out t → r .verdict ≡ Accepted → r .len ≤ 65588
+short (events es) out t f e v = omega (arith, f es refl, ap (λ (o : ListingOutcome). o .answer .len) e)
 short (refused refusal) out t f e v = absurd (never refusal out t e v)
 
 -- the rows follow
 rows : (said : Trace) (out : List ℕ) (t : Oep060Timing) → 68224 ≤ length out → Bound said t → {r : Listed} {after : List ℕ}
-    → outcome r after ≡ outcomeBy said out t → r .verdict ≡ Accepted → length (imageOf (r .timing)) ≡ 1288
+    → listingOutcome r after ≡ listingOutcomeBy said out t → r .verdict ≡ Accepted → length (imageOf (r .timing)) ≡ 1288
     → {n : ℕ} {last : List ℕ} → written n last ≡ writtenOf after (r .len) (hexRows 41 (imageOf (r .timing)))
     → written n last ≡ writtenOf out 0 (shown said t)
 rows (events es) out t room f {r} e v l d =
     let b = f es refl in
     let w = wrote out 0 (tableOf es t) (omega arith) (listed-text (events es) out t e) in
-    rw (← ap (λ (o : Outcome). o .answer .timing) e)
+    rw (← ap (λ (o : ListingOutcome). o .answer .timing) e)
     (wrote-whole (wrote-more w (hexRows 41 (imageOf (r .timing))) (omega (arith, w .place, rows-length 41 (imageOf (r .timing)))) d))
 rows (refused refusal) out t room f e v l d = absurd (never refusal out t e v)
 
-module _ (trace out : List ℕ) (t : Oep060Timing) {r : Listed} {after : List ℕ} (e : outcome r after ≡ outcomeBy (judgedOf trace) out t) (v : r .verdict ≡ Accepted) where
-  bound : Bound (judgedOf trace) t
+module _ (trace out : List ℕ) (t : Oep060Timing) {r : Listed} {after : List ℕ} (e : listingOutcome r after ≡ listingOutcomeBy (shortTraceOf trace) out t) (v : r .verdict ≡ Accepted) where
+  bound : Bound (shortTraceOf trace) t
   bound es q = text-fits trace t q
 
   pub replay-room : r .len ≤ 65588
-  replay-room = short (judgedOf trace) out t bound e v
+  replay-room = short (shortTraceOf trace) out t bound e v
 
   pub replay-shown : 68224 ≤ length out → length (r .timing .cache .tags) ≡ 256 → length (r .timing .cache .state) ≡ 256
       → {n : ℕ} {last : List ℕ} → written n last ≡ writtenOf after (r .len) (imageLines (r .timing))
-      → written n last ≡ writtenOf out 0 (shown (judgedOf trace) t)
-  replay-shown room a b d = rows (judgedOf trace) out t room bound e v (image-long (r .timing) a b) d
+      → written n last ≡ writtenOf out 0 (shown (shortTraceOf trace) t)
+  replay-shown room a b d = rows (shortTraceOf trace) out t room bound e v (image-long (r .timing) a b) d
 
 -- ---- the verdict on the image
 module _ (image trace : List ℕ) {read : ImageRead} (e : read ≡ imageReadOf image) where
-  pub printed-refused : {refusal : Refusal} → read .verdict ≡ Refused refusal → printed (imageReadOf image) trace ≡ textOf "image " ++ refusalLine refusal
-  printed-refused v = ap (λ (x : ImageRead). printed x trace) (sym e) ∙ ap (λ (u : Verdict). printedBy u (read .timing) trace) v
+  pub printed-refused : {refusal : Refusal} → read .verdict ≡ Refused refusal → replayed (imageReadOf image) trace ≡ textOf "image " ++ refusalLine refusal
+  printed-refused v = ap (λ (x : ImageRead). replayed x trace) (sym e) ∙ ap (λ (u : Verdict). replayedBy u (read .timing) trace) v
 
-  pub printed-accepted : read .verdict ≡ Accepted → printed (imageReadOf image) trace ≡ shown (judgedOf trace) (read .timing)
-  printed-accepted v = ap (λ (x : ImageRead). printed x trace) (sym e) ∙ ap (λ (u : Verdict). printedBy u (read .timing) trace) v
+  pub printed-accepted : read .verdict ≡ Accepted → replayed (imageReadOf image) trace ≡ shown (shortTraceOf trace) (read .timing)
+  printed-accepted v = ap (λ (x : ImageRead). replayed x trace) (sym e) ∙ ap (λ (u : Verdict). replayedBy u (read .timing) trace) v
 
 -- ---- the two parts of the input
 module _ (input : List ℕ) where
@@ -138,16 +137,16 @@ module _ (input : List ℕ) where
           drop-of-length-le input {i = min (length input) 1288} (omega arith) ∙ sym (drop-of-length-le input {i = 1288} (omega arith))
       go false q = rw (min-eq-right (ltb-false (length input) 1288 q))
 
-  by-verdict : (v : Verdict) → replayBy v input ≡ printedBy v (imageReadOf (imageIn input) .timing) (traceIn input)
+  by-verdict : (v : Verdict) → replayBy v input ≡ replayedBy v (imageReadOf (imageIn input) .timing) (traceIn input)
   by-verdict (Refused refusal) = refl
   by-verdict Accepted = refl
 
   pub replay-printed : {size : ℕ} → size ≡ min (length input) 1288
-      → printed (imageReadOf (take size input)) (take (length input - size) (drop size input)) ≡ replayOf input
+      → replayed (imageReadOf (take size input)) (take (length input - size) (drop size input)) ≡ replayOf input
   replay-printed {size} least =
       let all : take (length input - size) (drop size input) ≡ drop size input = take-all (length input - size) (drop size input) (omega (arith, length-drop size input)) in
       let rest : take (length input - size) (drop size input) ≡ traceIn input = all ∙ ap (λ (n : ℕ). drop n input) least ∙ trace-part in
       let front : take size input ≡ imageIn input = ap (λ (n : ℕ). take n input) least ∙ image-part in
-      ap (λ (xs : List ℕ). printed (imageReadOf xs) (take (length input - size) (drop size input))) front
-      ∙ ap (printed (imageReadOf (imageIn input))) rest
+      ap (λ (xs : List ℕ). replayed (imageReadOf xs) (take (length input - size) (drop size input))) front
+      ∙ ap (replayed (imageReadOf (imageIn input))) rest
       ∙ sym (by-verdict (imageReadOf (imageIn input) .verdict))

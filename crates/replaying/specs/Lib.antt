@@ -1,6 +1,8 @@
 -- What the replay prints. The tool is the project's own, beside document 01's cost lister.
 --
---   Replay   ==  the replay's whole output
---   Inner    ==  what the functions inside answer; nothing of it enters the promise of `replay_text`
+--   HexLines  ==  an image in lines of hexadecimal
+--   Replay    ==  the replay's whole output
+--   Inner     ==  what the functions inside answer; nothing of it enters the promise of `replay_text`
 pub mod Replay
 pub mod Inner
+pub mod HexLines

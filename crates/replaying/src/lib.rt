@@ -1,36 +1,43 @@
 // The replay: the cost lister's text from a state image, and the next state's image.
+//
+// The input is an image and then a trace: `replay_parts` reads the image (`image`), `replay_from` lists the trace from
+// its state (`listing`), and the next state's image follows in the rows of `hex_lines`. Only `replay_text` is called
+// from outside, by the program `replay`.
+mod hex_lines;
+
 ghost use mathlib.Core.Path.{_≡_};
 ghost use mathlib.Core.List.{_++_};
 ghost use Prim.Native.Nat.{_+_, _≤_, min};
 ghost use lib.ListN.{length};
 ghost use Rattle.text.specs.Written.{textOf, written, writtenOf};
 ghost use Rattle.image.specs.Entries.{imageReadOf};
-ghost use Rattle.lines.specs.Lines.{refusalLine};
-ghost use Rattle.listing.specs.Listing.{judgedOf};
+ghost use Rattle.listing.specs.Lines.{refusalLine};
+ghost use Rattle.listing.specs.Listing.{shortTraceOf};
 ghost use Rattle.replaying.specs.Replay.{imageLines, shown, replayOf};
-ghost use Rattle.replaying.specs.Inner.{printed};
+ghost use Rattle.replaying.specs.Inner.{replayed};
 use image::IMAGE_LENGTH;
 use refusals::Refusal;
 use refusals::Verdict;
-use step::Oep060Timing;
+use state::Oep060Timing;
 
 // Room for the longest text: the lister's, and the 1,288 bytes of an image, two digits each, in 41 lines.
 pub const REPLAY_ROOM: usize = 68224;
 
 // The image of a state in rows.
-fn put_image(out: &mut [u8], at: usize, timing: Oep060Timing) -> usize
+fn put_image_lines(out: &mut [u8], at: usize, timing: Oep060Timing) -> usize
     requires { ⌜ at + 2617 ≤ length (now out) ⌝ }
     ensures { λ r. ⌜ written r (now (out .exit)) ≡ writtenOf (now (out .entry)) at (imageLines timing) ⌝ }
 {
     let mut bytes = [0u8; 1288];
     image::image_write(timing, &mut bytes);
-    rows::put_rows(out, at, &bytes)
+    hex_lines::put_rows(out, at, &bytes)
 }
 
 // The replay's text from the state that was read.
 fn replay_from(trace: &[u8], out: &mut [u8], timing: Oep060Timing) -> usize
     requires { ⌜ 68224 ≤ length (now out) ⌝ }
-    ensures { λ r. ⌜ written r (now (out .exit)) ≡ writtenOf (now (out .entry)) 0 (shown (judgedOf (now (trace .entry))) timing) ⌝ }
+    ensures { λ r. ⌜ written r (now (out .exit))
+        ≡ writtenOf (now (out .entry)) 0 (shown (shortTraceOf (now (trace .entry))) timing) ⌝ }
 {
     let listed = listing::list_into(trace, out, timing);
     let verdict = listed.verdict;
@@ -38,23 +45,25 @@ fn replay_from(trace: &[u8], out: &mut [u8], timing: Oep060Timing) -> usize
     let next = listed.timing;
     match verdict {
         Verdict::Refused(_) => len,
-        Verdict::Accepted => put_image(out, len, next),
+        Verdict::Accepted => put_image_lines(out, len, next),
     }
 }
 
 // The whole text where the image is refused.
 fn put_refused(out: &mut [u8], refusal: Refusal) -> usize
     requires { ⌜ 59 ≤ length (now out) ⌝ }
-    ensures { λ r. ⌜ written r (now (out .exit)) ≡ writtenOf (now (out .entry)) 0 (textOf "image " ++ refusalLine refusal) ⌝ }
+    ensures { λ r. ⌜ written r (now (out .exit))
+        ≡ writtenOf (now (out .entry)) 0 (textOf "image " ++ refusalLine refusal) ⌝ }
 {
     let at = text::put_bytes(out, 0, b"image ");
-    lines::put_refusal(out, at, refusal)
+    listing::put_refusal(out, at, refusal)
 }
 
 // The image is judged first.
 fn replay_parts(image: &[u8], trace: &[u8], out: &mut [u8]) -> usize
     requires { ⌜ 68224 ≤ length (now out) ⌝ }
-    ensures { λ r. ⌜ written r (now (out .exit)) ≡ writtenOf (now (out .entry)) 0 (printed (imageReadOf (now (image .entry))) (now (trace .entry))) ⌝ }
+    ensures { λ r. ⌜ written r (now (out .exit))
+        ≡ writtenOf (now (out .entry)) 0 (replayed (imageReadOf (now (image .entry))) (now (trace .entry))) ⌝ }
 {
     let read = image::image_read(image);
     let verdict = read.verdict;

@@ -1,10 +1,4 @@
--- Document 01, part 5: what one event does to a state.
+-- Document 01, part 5: the board that document 000 chooses.
 --
---   Board    ==  what is chosen at the start: how an opcode is read, and which branch cache is asked
---   Events   ==  retirements, breaks and clears over any board: the state after each, and a run of them
---   Crate    ==  the branch cache of document 000
---   Step     ==  its state as the structs of the code hold it
-pub mod Board
-pub mod Events
-pub mod Crate
-pub mod Step
+--   CrateBoard  ==  its profile and its cache together, and one event on its state
+pub mod CrateBoard

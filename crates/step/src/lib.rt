@@ -1,79 +1,81 @@
-// Part 5 of document 01: the state that a host keeps, and what can happen to it.
+// Part 5 of document 01: one retirement by value, from state to state, as the Rust reads.
+//
+// `in_place` has the same step on lent numbers, for runs and hosts; both equal `steppedOf`.
 ghost use mathlib.Core.Path.{_≡_};
-ghost use Rattle.step.specs.Step.{seenOf, brokenOf, clearedOf, userClearedOf, freshOf};
+ghost use mathlib.Core.Bool.{true, false};
+ghost use Rattle.class_word.specs.Word.{has, BRANCH};
+ghost use Rattle.state.specs.Events.{answerOf};
+ghost use Rattle.state.specs.CrateCache.{crateCache};
+ghost use Rattle.state.specs.Timing.{steppedBy};
+ghost use Rattle.step.specs.CrateBoard.{steppedOf};
 use branch_cache::BranchCache060;
-use class_word::Clocks;
-use dispatch::Controls;
+use class_word::F_BRANCH;
+use class_word::F_DBCC;
+use classifier::info_060;
+use cost::Answer;
+use cost::branch_cost_060;
+use masks::reg_masks_060;
+use state::Oep060Timing;
+use state::Retirement;
+use state::Stepped;
+use window::Controls;
+use window::Instruction;
 use window::Window;
 
-// A retired instruction as the host passes it.
-pub struct Retirement {
-    pub op: u16,
-    pub controls: Controls,
+// What the cache says of a branch before it is updated.
+fn answered(cache: BranchCache060, i: Instruction, k: Controls) -> Answer
+    ensures { λ r. ⌜ r ≡ answerOf crateCache cache i k ⌝ }
+{
+    if state::consulted(i, k) {
+        return state::answer_of(cache.predict(k.ppc));
+    }
+    Answer::NotConsulted
 }
 
-// What can happen to a state.
-pub enum Event {
-    Retired(Retirement),
-    Broken,
-    ClearedAll,
-    ClearedUser,
+// The window is noted, then shut; the cache is asked, and then updated.
+fn branch_060(mut timing: Oep060Timing, i: Instruction, k: Controls) -> Stepped
+    requires { ⌜ has (i .word .0) BRANCH ≡ true ⌝ }
+    ensures { λ o. ⌜ o ≡ steppedBy timing i k ⌝ }
+{
+    let taken = cost::taken(i, k);
+    let opened = timing.window.opened;
+    timing.window = Window::shut();
+    let answer = answered(timing.cache, i, k);
+    let cost = branch_cost_060(i.word.has(F_DBCC), taken, opened, answer);
+    if state::consulted(i, k) {
+        timing.cache = timing.cache.update(k.ppc, taken, !k.supervisor);
+    }
+    Stepped { timing, cost }
 }
 
-// The timing state that a host keeps.
-pub struct Oep060Timing {
-    // branch_cache
-    pub cache: BranchCache060,
-    // pending_head
-    pub window: Window,
+// Another change of flow, or neither: the dispatch test is in what it is charged.
+fn other_060(mut timing: Oep060Timing, i: Instruction, k: Controls) -> Stepped
+    requires { ⌜ has (i .word .0) BRANCH ≡ false ⌝ }
+    ensures { λ o. ⌜ o ≡ steppedBy timing i k ⌝ }
+{
+    let charged = cost::charge_other(i, k, timing.window);
+    let cost = charged.cost;
+    if charged.heads {
+        timing.window = cost::as_head(i, k);
+    } else {
+        timing.window = Window::shut();
+    }
+    Stepped { timing, cost }
 }
 
-// The next state, and what the retirement costs.
-pub struct Stepped {
-    pub timing: Oep060Timing,
-    pub cost: Clocks,
-}
-
-impl Oep060Timing {
-    pub fn fresh() -> Self
-        ensures { λ r. ⌜ r ≡ freshOf ⌝ }
-    {
-        let cache = BranchCache060::fresh();
-        let window = Window::shut();
-        Oep060Timing { cache, window }
+// The Rust's cycles_060.
+pub fn cycles_060(timing: Oep060Timing, r: Retirement) -> Stepped
+    ensures { λ o. ⌜ o ≡ steppedOf timing r ⌝ }
+{
+    let info = info_060(r.op);
+    let masks = reg_masks_060(r.op);
+    let i = Instruction {
+        word: info,
+        uses: masks.uses,
+        defs: masks.defs,
+    };
+    if info.has(F_BRANCH) {
+        return branch_060(timing, i, r.controls);
     }
-
-    // As every entry point reads it: a shut window has zeros.
-    pub fn seen(self) -> Self
-        ensures { λ r. ⌜ r ≡ seenOf self ⌝ }
-    {
-        let cache = self.cache;
-        let window = self.window.seen();
-        Oep060Timing { cache, window }
-    }
-
-    // The rule of break_060_pipeline, by value.
-    pub fn broken(self) -> Self
-        ensures { λ r. ⌜ r ≡ brokenOf self ⌝ }
-    {
-        let cache = self.cache;
-        let window = Window::shut();
-        Oep060Timing { cache, window }
-    }
-
-    pub fn clear_all(self) -> Self
-        ensures { λ r. ⌜ r ≡ clearedOf self ⌝ }
-    {
-        let cache = self.cache.clear_all();
-        let window = self.window.seen();
-        Oep060Timing { cache, window }
-    }
-
-    pub fn clear_user(self) -> Self
-        ensures { λ r. ⌜ r ≡ userClearedOf self ⌝ }
-    {
-        let cache = self.cache.clear_user();
-        let window = self.window.seen();
-        Oep060Timing { cache, window }
-    }
+    other_060(timing, i, r.controls)
 }

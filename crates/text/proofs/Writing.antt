@@ -11,19 +11,11 @@ use lib.Seq.{sets-eq, length-take-le, take-suc}
 use Rattle.little_endian.specs.Numbers.{putAt}
 use Rattle.little_endian.proofs.Numbers.{put-length, put-joins}
 use Rattle.text.specs.Written.{Written, written, writtenOf}
-
-pub put-none : (s : List ℕ) (at : ℕ) → putAt s at [] ≡ s
-unfolding putAt
-put-none s at = rw (add-zero at, append-nil) (take-append-drop at s)
+use Rattle.little_endian.proofs.Loops.{put-none, set-puts}
 
 pub written-none : (lent : List ℕ) (at : ℕ) → writtenOf lent at [] ≡ written at lent
 unfolding writtenOf
 written-none lent at = rw (add-zero at, put-none lent at)
-
--- a store is one character put
-pub set-puts : (s : List ℕ) (at x : ℕ) → at < length s → set s at x ≡ putAt s at (x ∷ [])
-unfolding putAt
-set-puts s at x h = sets-eq (x ∷ []) s at (omega arith)
 
 -- one more character behind text
 pub put-more : (s : List ℕ) (at : ℕ) (text : List ℕ) (x : ℕ) → at + length text < length s

@@ -1,10 +1,11 @@
 -- Document 01, "Worked instructions": "Whole output". Text is a list of characters, each as the number of its byte.
 --
---   textOf quoted            ==  the characters of a quoted text
---   newline                  ==  the end of a line
---   Written                  ==  what a function that writes text answers, the place behind the text, together with the lent bytes afterwards
---   written next lent        ==  the two together
---   writtenOf lent at text   ==  the text put into the lent bytes from the place `at` on, all others as they were
+--   textOf quoted           ==  the characters of a quoted text
+--   newline                 ==  the end of a line
+--   Written                 ==  what a function that writes text answers, the place behind the text, together with the
+--                               lent bytes afterwards
+--   written next lent       ==  the two together
+--   writtenOf lent at text  ==  the text put into the lent bytes from the place `at` on, all others as they were
 use Prim.Native.Nat.{ℕ, _+_}
 use Prim.Native.Char.{code}
 use Prim.Native.String.{String, [] as empty, _∷_ as _before_}

@@ -1,8 +1,14 @@
-// Numbers as the tools print them.
+// Numbers as the tools print them, put into lent bytes.
+//
+// `hex` makes digits. Each function here puts some bytes at a place and answers the place behind them, so that a line
+// is a chain of calls; the caller knows the room. `listing` and `replaying` call them.
+mod hex;
+
+pub use hex::hex4;
 ghost use mathlib.Core.Path.{_≡_};
 ghost use Prim.Native.Nat.{_+_, _≤_};
 ghost use lib.ListN.{length};
-ghost use Rattle.hex.specs.Hex.{hexOf, hexByteOf};
+ghost use Rattle.text.specs.Hex.{hexOf, hexByteOf};
 ghost use Rattle.text.specs.Decimal.{decimalOf};
 ghost use Rattle.text.specs.Written.{written, writtenOf};
 

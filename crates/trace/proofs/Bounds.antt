@@ -5,13 +5,12 @@ use mathlib.Core.List.{List, [], _∷_}
 use native.Mathlib.Omega.{arith}
 use lib.ListN.{length}
 use Rattle.little_endian.specs.Numbers.{Below}
-use Rattle.step.specs.declared.Event.{Event}
-use Rattle.step.specs.Events.{total}
-use Rattle.records.specs.Trace.{countOf}
-use Rattle.records.specs.Table.{Reached, start, past, Accepts}
+use Rattle.state.specs.declared.Event.{Event}
+use Rattle.state.specs.Events.{total, countOf}
+use Rattle.records.specs.TraceTable.{Reached, start, past, Accepts}
 use Rattle.records.proofs.Walking.{got-within}
 use Rattle.records.proofs.Counting.{count-one}
-use Rattle.record.proofs.Records.{whole-then}
+use Rattle.records.proofs.RecordRows.{whole-then}
 use Rattle.trace.proofs.Parts.{count-append}
 
 -- a retirement takes 20 bytes

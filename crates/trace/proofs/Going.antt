@@ -8,22 +8,23 @@ use native.Mathlib.Omega.{arith}
 use lib.ListN.{length}
 use Rattle.little_endian.specs.Numbers.{bytesOf, putAt}
 use Rattle.little_endian.proofs.Numbers.{bytes-length, put-length}
-use Rattle.step.specs.declared.Retirement.{Retirement}
-use Rattle.step.specs.declared.Event.{Event}
-use Rattle.step.specs.declared.Event.the-variants.{Retired}
-use Rattle.step.specs.declared.Oep060Timing.{Oep060Timing}
-use Rattle.step.specs.declared.Stepped.{Stepped}
-use Rattle.step.specs.Step.{seenOf}
-use Rattle.board.specs.Crate.{steppedOf, afterOf}
+use Rattle.state.specs.declared.Retirement.{Retirement}
+use Rattle.state.specs.declared.Event.{Event}
+use Rattle.state.specs.declared.Event.the-variants.{Retired}
+use Rattle.state.specs.declared.Oep060Timing.{Oep060Timing}
+use Rattle.state.specs.declared.Stepped.{Stepped}
+use Rattle.state.specs.Timing.{seenOf}
+use Rattle.step.specs.CrateBoard.{steppedOf, afterOf}
 use Rattle.refusals.specs.declared.Refusal.{Refusal}
-use Rattle.record.specs.declared.Read.the-variants.{Got, Bad, End}
-use Rattle.record.specs.Record.{readAt}
-use Rattle.records.specs.Trace.{ahead, readFrom, countOf}
+use Rattle.records.specs.declared.record.Read.the-variants.{Got, Bad, End}
+use Rattle.records.specs.Record.{readAt}
+use Rattle.records.specs.Trace.{ahead, readFrom}
 use Rattle.records.specs.Judged.{Fits}
 use Rattle.records.proofs.Walking.{got-within, from-end, from-bad, from-got}
 use Rattle.records.proofs.Judging.{fits-ahead, fits-room}
-use Rattle.trace.specs.Run.{outcome, ranAt, outcomeOf}
-use Rattle.trace.proofs.Running.{outcomeFrom, run-none, run-end, run-cost, run-quiet}
+use Rattle.trace.specs.Run.{traceOutcome, ranAt, traceOutcomeOf}
+use Rattle.trace.proofs.TraceRunning.{outcomeFrom, run-none, run-end, run-cost, run-quiet}
+use Rattle.state.specs.Events.{countOf}
 
 pub record Going (trace lent₀ : List ℕ) (t₀ : Oep060Timing) (lent : List ℕ) (at k sum : ℕ) (t : Oep060Timing) : Type 0 where
   pub inside : at ≤ length trace
@@ -32,7 +33,7 @@ pub record Going (trace lent₀ : List ℕ) (t₀ : Oep060Timing) (lent : List �
   pub same : length lent ≡ length lent₀
   pub small : sum ≤ k * 4294967295
   pub fits : Fits k (length lent) (readFrom trace at)
-  pub leads : outcomeFrom lent k sum t (readFrom trace at) ≡ outcomeOf (readFrom trace 0) lent₀ t₀
+  pub leads : outcomeFrom lent k sum t (readFrom trace at) ≡ traceOutcomeOf (readFrom trace 0) lent₀ t₀
 
 pub going-start : (trace lent : List ℕ) (t : Oep060Timing) {u : Oep060Timing} → u ≡ seenOf t → Fits 0 (length lent) (readFrom trace 0) → Going trace lent t lent 0 0 0 u
 going-start trace lent t e f =
@@ -46,7 +47,7 @@ going-start trace lent t e f =
     }
 
 module _ {trace lent₀ : List ℕ} {t₀ : Oep060Timing} {lent : List ℕ} {at k sum : ℕ} {t : Oep060Timing} (g : Going trace lent₀ t₀ lent at k sum t) where
-  pub going-end : readAt trace at ≡ End → outcome (ranAt k sum t) lent ≡ outcomeOf (readFrom trace 0) lent₀ t₀
+  pub going-end : readAt trace at ≡ End → traceOutcome (ranAt k sum t) lent ≡ traceOutcomeOf (readFrom trace 0) lent₀ t₀
   going-end q = sym (run-end lent k sum t) ∙ sym (ap (outcomeFrom lent k sum t) (from-end trace at q)) ∙ g .leads
 
   -- so the total fits 64 bits: a trace of 16,777,216 bytes has 838,860 retirements at most

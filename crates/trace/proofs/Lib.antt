@@ -1,4 +1,4 @@
-pub mod Running
+pub mod TraceRunning
 pub mod Seen
 pub mod Starting
 pub mod Going

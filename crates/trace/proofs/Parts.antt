@@ -6,21 +6,20 @@ use mathlib.Core.List.{List, [], _∷_, _++_, append-assoc, append-nil}
 use native.Mathlib.Omega.{arith}
 use lib.ListN.{length, drop, length-append}
 use lib.Seq.{drop-append-add, drop-length}
-use Rattle.little_endian.specs.Numbers.{bytesOf, putAt}
-use Rattle.little_endian.proofs.Numbers.{bytes-length}
-use Rattle.pairing.specs.Cost.{costOf}
-use Rattle.step.specs.declared.Event.{Event}
-use Rattle.step.specs.declared.Event.the-variants.{Retired, Broken, ClearedAll, ClearedUser}
-use Rattle.step.specs.declared.Oep060Timing.{Oep060Timing}
-use Rattle.step.specs.Board.{Board}
-use Rattle.step.specs.Events.{State, retiringOf, after, retirements, finally, costs, total}
-use Rattle.step.specs.Crate.{crateCache}
-use Rattle.board.specs.Crate.{crateBoard}
-use Rattle.step.specs.Step.{stateOf, timingOf, seenOf}
+use Rattle.little_endian.specs.Numbers.{bytesOf, bytesOfEach, putAt}
+use Rattle.little_endian.proofs.Each.{each-length}
+use Rattle.cost.specs.Cost.{costOf}
+use Rattle.state.specs.declared.Event.{Event}
+use Rattle.state.specs.declared.Event.the-variants.{Retired, Broken, ClearedAll, ClearedUser}
+use Rattle.state.specs.declared.Oep060Timing.{Oep060Timing}
+use Rattle.state.specs.Board.{Board}
+use Rattle.state.specs.Events.{State, retiringOf, after, retirements, finally, costs, total, countOf}
+use Rattle.state.specs.CrateCache.{crateCache}
+use Rattle.step.specs.CrateBoard.{crateBoard}
+use Rattle.state.specs.Timing.{stateOf, timingOf, seenOf}
 use Rattle.refusals.specs.declared.Verdict.the-variants.{Accepted}
-use Rattle.records.specs.Trace.{countOf}
-use Rattle.trace.specs.Run.{costBytes, costsOf, nextOf, Outcome, outcome, runTraceOf}
-use Rattle.records.specs.Table.{Accepts}
+use Rattle.trace.specs.Run.{costBytes, costsOf, nextOf, TraceOutcome, traceOutcome, runTraceOf}
+use Rattle.records.specs.TraceTable.{Accepts}
 use Rattle.records.proofs.Counting.{count-cons}
 use Rattle.trace.proofs.Seen.{state-seen, finally-seen}
 use Rattle.trace.proofs.Refused.{run-accepted}
@@ -57,12 +56,12 @@ total-append [] ms = omega arith
 total-append (n ∷ ns) ms = omega (arith, total-append ns ms)
 
 pub bytes-append : (ns ms : List ℕ) → costBytes (ns ++ ms) ≡ costBytes ns ++ costBytes ms
+unfolding bytesOfEach
 bytes-append [] ms = refl
 bytes-append (n ∷ ns) ms = ap (λ (bs : List ℕ). bytesOf 4 n ++ bs) (bytes-append ns ms) ∙ sym (append-assoc (bytesOf 4 n) (costBytes ns) (costBytes ms))
 
 pub bytes-four : (ns : List ℕ) → length (costBytes ns) ≡ 4 * length ns
-bytes-four [] = refl
-bytes-four (n ∷ ns) = omega (arith, length-append (bytesOf 4 n) (costBytes ns), bytes-length 4 n, bytes-four ns)
+bytes-four ns = each-length 4 ns
 
 -- the state that a run leaves is as it is read
 next-read : (t : Oep060Timing) (es : List Event) → stateOf (seenOf (nextOf t es)) ≡ finally crateBoard (stateOf (seenOf t)) es
@@ -100,10 +99,10 @@ put-both l m bs cs e =
 -- one run into lent bytes of which the first part is what the first trace's costs fill
 module _ (a b l m : List ℕ) (t : Oep060Timing) {es fs : List Event} (first : Accepts a (length l) es) (second : Accepts b (length m) fs)
     (fills : length l ≡ 4 * countOf es) (size : length (a ++ b) ≤ 16777216) where
-  abbrev ran₁ : Outcome
+  abbrev ran₁ : TraceOutcome
   ran₁ = runTraceOf a l t
 
-  abbrev ran₂ : Outcome
+  abbrev ran₂ : TraceOutcome
   ran₂ = runTraceOf b m (ran₁ .ran .timing)
 
   both : Accepts (a ++ b) (length (l ++ m)) (es ++ fs)
@@ -115,7 +114,7 @@ module _ (a b l m : List ℕ) (t : Oep060Timing) {es fs : List Event} (first : A
       }
 
   pub run-parts : runTraceOf (a ++ b) (l ++ m) t
-      ≡ outcome
+      ≡ traceOutcome
       (record {
         verdict = Accepted;
         count = ran₁ .ran .count + ran₂ .ran .count;

@@ -1,34 +1,61 @@
--- The same of the whole run, what it returns and the lent bytes: each refusal is given then and only then when the table of document 01 says so, and
+-- Of the whole run, what it returns and the lent bytes: each refusal is given then and only then when the table of document 01 says so, and
 -- a run is accepted when no row is given.
 -- Assumes nothing.
 use Prim.Native.Nat.{ℕ}
-use mathlib.Core.Path.{_≡_}
+use mathlib.Core.Path.{_≡_, refl, sym, subst}
+use mathlib.Core.Bool.{true, false, true≢false}
 use mathlib.Core.List.{List}
 use lib.ListN.{length}
-use Rattle.step.specs.declared.Event.{Event}
-use Rattle.step.specs.declared.Oep060Timing.{Oep060Timing}
+use Rattle.state.specs.declared.Event.{Event}
+use Rattle.state.specs.declared.Oep060Timing.{Oep060Timing}
 use Rattle.refusals.specs.declared.Refusal.{Refusal}
 use Rattle.refusals.specs.declared.Verdict.the-variants.{Refused}
-use Rattle.outcome.specs.Runs.{refusedOf}
+use Rattle.refusals.specs.Refused.{refusedOf}
 use Rattle.records.specs.Trace.{Trace, events, refused}
-use Rattle.records.specs.Judged.{judged}
-use Rattle.records.specs.Table.{Refuses, Accepts}
-use Rattle.records.proofs.Refused.{refuses-then, accepts-then, refuses-only}
-use Rattle.trace.specs.Run.{outcome, acceptedOf, outcomeOf, runTraceOf}
+use Rattle.records.specs.Judged.{judgedTrace}
+use Rattle.records.specs.TraceTable.{Refuses, Accepts}
+use Rattle.records.proofs.Refused.{refuses-then, accepts-then, refuses-only, accepts-only}
+use Rattle.trace.specs.Run.{traceOutcome, traceAcceptedOf, traceOutcomeOf, runTraceOf}
+use Rattle.refusals.specs.Refusals.{numberOf}
+use Rattle.refusals.specs.Given.{gives, isAccepted}
+use Rattle.refusals.proofs.Told.{Told, gives-told}
 
 module _ (trace lent : List ℕ) (t : Oep060Timing) where
-  pub run-refused : {refusal : Refusal} → Refuses trace (length lent) refusal → runTraceOf trace lent t ≡ outcome (refusedOf refusal t) lent
+  pub run-refused : {n p : ℕ} → Refuses trace (length lent) n p → Told n p (λ refusal. runTraceOf trace lent t ≡ traceOutcome (refusedOf refusal t) lent)
   unfolding runTraceOf
-  run-refused h = rw (refuses-then trace (length lent) h)
+  run-refused h =
+      let x = refuses-then trace (length lent) h in
+      record { refusal = x .refusal; number = x .number; place = x .place; so = rw (x .so) }
 
-  pub run-accepted : {es : List Event} → Accepts trace (length lent) es → runTraceOf trace lent t ≡ acceptedOf es lent t
+  pub run-accepted : {es : List Event} → Accepts trace (length lent) es → runTraceOf trace lent t ≡ traceAcceptedOf es lent t
   unfolding runTraceOf
   run-accepted h = rw (accepts-then trace (length lent) h)
 
-  pub run-refused-only : {refusal : Refusal} → runTraceOf trace lent t .ran .verdict ≡ Refused refusal → Refuses trace (length lent) refusal
+  by-refusal : {refusal : Refusal} (x : Trace) → traceOutcomeOf x lent t .ran .verdict ≡ Refused refusal → x ≡ refused refusal
+  by-refusal (events es) h = cc
+  by-refusal (refused other) h = cc
+
+  pub run-refused-only : {n p : ℕ} → gives n p (runTraceOf trace lent t .ran .verdict) ≡ true → Refuses trace (length lent) n p
   unfolding runTraceOf
-  run-refused-only {refusal} q = refuses-only trace (length lent) (go (judged trace (length lent)) q)
+  run-refused-only {n} {p} h =
+      let x = gives-told (runTraceOf trace lent t .ran .verdict) h in
+      subst (λ (m : ℕ). Refuses trace (length lent) m p) (x .number)
+      (subst (Refuses trace (length lent) (numberOf (x .refusal))) (x .place) (refuses-only trace (length lent) (by-refusal (judgedTrace trace (length lent)) (x .so))))
+
+  -- a refused run keeps what it was given
+  pub run-keeps : isAccepted (runTraceOf trace lent t .ran .verdict) ≡ false → (refusal : Refusal) × (runTraceOf trace lent t ≡ traceOutcome (refusedOf refusal t) lent)
+  unfolding runTraceOf
+  run-keeps = go (judgedTrace trace (length lent))
     where
-      go : (x : Trace) → outcomeOf x lent t .ran .verdict ≡ Refused refusal → x ≡ refused refusal
-      go (events es) h = cc
-      go (refused other) h = cc
+      go : (x : Trace) → isAccepted (traceOutcomeOf x lent t .ran .verdict) ≡ false → (refusal : Refusal) × (traceOutcomeOf x lent t ≡ traceOutcome (refusedOf refusal t) lent)
+      go (events es) h = absurd (true≢false h)
+      go (refused refusal) h = (refusal, refl)
+
+  -- an accepted run has the events of a trace that the table accepts
+  pub run-accepted-only : isAccepted (runTraceOf trace lent t .ran .verdict) ≡ true → (es : List Event) × Accepts trace (length lent) es
+  unfolding runTraceOf
+  run-accepted-only = go (judgedTrace trace (length lent)) refl
+    where
+      go : (x : Trace) → judgedTrace trace (length lent) ≡ x → isAccepted (traceOutcomeOf x lent t .ran .verdict) ≡ true → (es : List Event) × Accepts trace (length lent) es
+      go (events es) q h = (es, accepts-only trace (length lent) q)
+      go (refused refusal) q h = absurd (true≢false (sym h))

@@ -5,11 +5,11 @@ use mathlib.Core.Bool.{Bool, true, false, cond}
 use mathlib.Core.List.{List, [], _∷_}
 use Rattle.window.specs.declared.Window.{Window}
 use Rattle.window.specs.Windows.{shut, seen}
-use Rattle.pairing.proofs.Seen.{seen-cost, seen-window, next-seen}
-use Rattle.step.specs.declared.Event.{Event}
-use Rattle.step.specs.declared.Event.the-variants.{Retired, Broken, ClearedAll, ClearedUser}
-use Rattle.step.specs.Board.{Board}
-use Rattle.step.specs.Events.{State, answerOf, cacheAfter, seenState, after, retirements, finally, costs}
+use Rattle.cost.proofs.Seen.{seen-cost, seen-window, next-seen}
+use Rattle.state.specs.declared.Event.{Event}
+use Rattle.state.specs.declared.Event.the-variants.{Retired, Broken, ClearedAll, ClearedUser}
+use Rattle.state.specs.Board.{Board}
+use Rattle.state.specs.Events.{State, answerOf, cacheAfter, seenState, after, retirements, finally, costs}
 
 -- a window as it is read is read as it is
 pub seen-seen : (w : Window) → seen (seen w) ≡ seen w

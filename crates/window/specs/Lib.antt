@@ -1,4 +1,10 @@
--- Document 01, part 5: the pairing window. One file.
+-- Document 01, part 5: the pairing window.
+--
+--   Windows   ==  the shut window, and a window as it is read
+--   Raw       ==  a raw 68000 count as 68060 clocks
+--   Dispatch  ==  the dispatch test: the six rules, in order
 --
 -- `cond t x y` is x where t holds, else y; `w .opened` is the field `opened` of w.
 pub mod Windows
+pub mod Raw
+pub mod Dispatch

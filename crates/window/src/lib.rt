@@ -1,4 +1,20 @@
-// Part 5 of document 01: the pairing window.
+// Part 5 of document 01: the pairing window, and the test that an instruction must pass to join its head.
+//
+// Here is the window itself. `raw` has raw counts and makes clocks of them, `dispatch` what a retirement brings and the
+// dispatch test, and `lent` the break on a lent window, a thin function over the rule by value. `cost` calls the test
+// and the fallback.
+mod dispatch;
+mod lent;
+mod raw;
+
+pub use dispatch::Controls;
+pub use dispatch::Instruction;
+pub use dispatch::memory;
+pub use dispatch::soep_dispatch_test;
+pub use lent::break_060_pipeline;
+pub use lent::break_in_place;
+pub use raw::RawCount;
+pub use raw::fallback_cycles;
 ghost use mathlib.Core.Path.{_≡_};
 ghost use Rattle.window.specs.Windows.{shut, seen};
 

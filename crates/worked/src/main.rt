@@ -1,9 +1,12 @@
-// Document 01's worked instructions that are run: the fallback of seven raw counts, and RTS that flowed at raw 20 and 24.
-use dispatch::Controls;
+// Document 01's worked instructions that are run: the fallback of seven raw counts, and RTS that flowed at raw 20 and
+// 24.
+//
+// The fallback is that of `window`; RTS is one step by value (`step`) from a fresh state.
 use libc::STDOUT_FILENO;
-use raw::RawCount;
-use step::Oep060Timing;
-use step::Retirement;
+use state::Oep060Timing;
+use state::Retirement;
+use window::Controls;
+use window::RawCount;
 
 // A line: what was asked, and the clocks.
 fn show(asked: &[u8], clocks: u32) {
@@ -13,7 +16,7 @@ fn show(asked: &[u8], clocks: u32) {
 }
 
 fn fallback(asked: &[u8], raw: i32) {
-    show(asked, raw::fallback_cycles(RawCount(raw)).0);
+    show(asked, window::fallback_cycles(RawCount(raw)).0);
 }
 
 // One retirement of RTS that flowed, from a fresh state, its fetch not cached.
@@ -32,7 +35,7 @@ fn flowed(asked: &[u8], raw: i32) {
         op: 0x4E75,
         controls,
     };
-    let stepped = cycles::cycles_060(Oep060Timing::fresh(), rts);
+    let stepped = step::cycles_060(Oep060Timing::fresh(), rts);
     show(asked, stepped.cost.0);
 }
 

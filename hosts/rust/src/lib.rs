@@ -146,7 +146,7 @@ impl Timing060 {
 
     /// Runs a batch: a place for each record. Places beyond the last cost stay.
     pub fn run_batch(&mut self, records: &[Record], costs: &mut [u32]) -> Result<Ran, Refused> {
-        let s = sys::Shared { at: records.as_ptr().cast(), count: records.len() as u64 * 4 };
+        let s = sys::Shared { at: records.as_ptr().cast(), count: (records.len() as u64).saturating_mul(4) };
         let c = sys::Lent::of(costs);
         answer(unsafe { sys::timing_060_run_batch_at(s, c, &mut self.tags, &mut self.state, &mut self.window) })
     }

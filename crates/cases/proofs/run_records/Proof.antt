@@ -7,8 +7,8 @@ use borrow.Author.Needs.{needs}
 use Rattle.cases.proofs.run_records.Statement.{statement}
 use Rattle.cases.proofs.run_records.Tie as tie
 
-run-four-requires : tie.Need-run-four-requires
-run-four-requires c κs = search needs
+run-slice-requires : tie.Need-run-slice-requires
+run-slice-requires c κs = search needs
 
 settle-requires : tie.Need-settle-requires
 settle-requires c κs = search needs
@@ -41,7 +41,7 @@ pub run-records-spec : {M : Type 1} → statement M
 run-records-spec =
     tie.close
     (tie.spec
-    run-four-requires
+    run-slice-requires
     settle-requires
     same-length
     returns

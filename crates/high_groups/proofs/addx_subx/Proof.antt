@@ -11,8 +11,8 @@ use Rattle.operand.proofs.Flags.{entry-packed}
 use Rattle.high_groups.proofs.addx_subx.Statement.{statement}
 use Rattle.high_groups.proofs.addx_subx.Tie as tie
 
-flags-of-requires : tie.Need-flags-of-requires
-flags-of-requires c κs = search needs
+operand-flags-requires : tie.Need-operand-flags-requires
+operand-flags-requires c κs = search needs
 
 poep-only-requires : tie.Need-poep-only-requires
 poep-only-requires c κs = search needs
@@ -20,7 +20,7 @@ poep-only-requires c κs = search needs
 returns : tie.Need-returns
 returns c =
     let a = c .before .before .args in
-    c .poep-only .ensures ∙ entry-packed PoepOnly 1 3072 (omega arith) refl refl (ea (modeOf (a .op)) (regOf (a .op)) true true) (c .before .flags-of .ensures)
+    c .poep-only .ensures ∙ entry-packed PoepOnly 1 3072 (omega arith) refl refl (ea (modeOf (a .op)) (regOf (a .op)) true true) (c .before .operand-flags .ensures)
 
 pub addx-subx-spec : {M : Type 1} → statement M
-addx-subx-spec = tie.close (tie.spec flags-of-requires poep-only-requires returns)
+addx-subx-spec = tie.close (tie.spec operand-flags-requires poep-only-requires returns)

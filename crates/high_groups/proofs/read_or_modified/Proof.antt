@@ -7,7 +7,7 @@ use borrow.Author.Needs.{needs}
 use Rattle.bits.specs.Pattern.{matches}
 use Rattle.bits.specs.Instructions.{toOperand}
 use Rattle.bits.specs.Fields.{modeOf, regOf}
-use Rattle.bits.specs.Rows.{after}
+use Rattle.bits.specs.Rows.{rowsAfter}
 use Rattle.bits.proofs.Patterns.{masked}
 use Rattle.class_word.specs.declared.Info060.{Info060}
 use Rattle.class_word.specs.Word.{info}
@@ -19,7 +19,7 @@ use Rattle.high_groups.proofs.read_or_modified.Tie as tie
 abbrev written : ℕ → Bool → Info060
 written op b = info (entryWord (alu (ea (modeOf op) (regOf op) true b)))
 
-rows : (op : ℕ) (b : Bool) → matches toOperand op ≡ b → written op b ≡ packed (after 1 (group11 op))
+rows : (op : ℕ) (b : Bool) → matches toOperand op ≡ b → written op b ≡ packed (rowsAfter 1 (group11 op))
 unfolding group11
 rows op true e = rw e
 rows op false e = rw e

@@ -1,14 +1,14 @@
--- `timing_060_clear_all_at`: zeros are stored, and the window as it is read, whatever the tags are.
+-- `timing_060_clear_all_at`: the clear in place.
 -- Assumes nothing.
 use borrow.Author.Needs.{needs}
 use Rattle.host.proofs.timing_060_clear_all_at.Statement.{statement}
 use Rattle.host.proofs.timing_060_clear_all_at.Tie as tie
 
-see-window-requires : tie.Need-see-window-requires
-see-window-requires c κs = search needs
+clear-all-at-requires : tie.Need-clear-all-at-requires
+clear-all-at-requires c κs = search needs
 
 returns : tie.Need-returns
-returns c = λ tags. simp (c .see-window .ensures)
+returns c = c .clear-all-at .ensures
 
 pub timing-060-clear-all-at-spec : {M : Type 1} → statement M
-timing-060-clear-all-at-spec = tie.close (tie.spec see-window-requires returns)
+timing-060-clear-all-at-spec = tie.close (tie.spec clear-all-at-requires returns)

@@ -1,7 +1,7 @@
 -- `timing_060_image_read_at`: the state of the image is stored.
 -- Assumes nothing.
 use mathlib.Core.Path.{ap}
-use Rattle.host.specs.Images.{hostStateOf}
+use Rattle.host.specs.HostImages.{hostStateOf}
 use borrow.Author.Needs.{needs}
 use Rattle.host.proofs.timing_060_image_read_at.Statement.{statement}
 use Rattle.host.proofs.timing_060_image_read_at.Tie as tie

@@ -1,9 +1,9 @@
 -- `timing_060_image_write_at`: the image of the state that is read.
 -- Assumes nothing.
 use mathlib.Core.Path.{ap, _∙_}
-use Rattle.step.specs.declared.Oep060Timing.{Oep060Timing}
+use Rattle.state.specs.declared.Oep060Timing.{Oep060Timing}
 use Rattle.image.specs.Entries.{imageWriteOf}
-use Rattle.host.specs.Images.{hostImageOf}
+use Rattle.host.specs.HostImages.{hostImageOf}
 use borrow.Author.Needs.{needs}
 use Rattle.host.proofs.timing_060_image_write_at.Statement.{statement}
 use Rattle.host.proofs.timing_060_image_write_at.Tie as tie

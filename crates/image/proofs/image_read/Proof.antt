@@ -5,22 +5,22 @@ use mathlib.Core.List.{List}
 use Prim.Native.Nat.{ℕ}
 use native.Mathlib.Omega.{arith}
 use Rattle.refusals.specs.declared.Verdict.the-variants.{Accepted}
-use Rattle.image.specs.Entries.{judgedOf}
+use Rattle.image.specs.Entries.{imageVerdictOf}
 use Rattle.image.proofs.Refusals.{image-judged, image-by}
 use borrow.Author.Needs.{needs}
 use Rattle.image.proofs.image_read.Statement.{statement}
 use Rattle.image.proofs.image_read.Tie as tie
 
-judged-requires : tie.Need-judged-requires
-judged-requires c κs = search needs
+image-verdict-requires : tie.Need-image-verdict-requires
+image-verdict-requires c κs = search needs
 
 enum-told : tie.Need-enum-told
 enum-told c = search needs
 
-state-at-requires : tie.Need-state-at-requires
-state-at-requires c κs =
+image-state-requires : tie.Need-image-state-requires
+image-state-requires c κs =
     let s : List ℕ = c .before .before .before .before .args .bytes .now in
-    let e : judgedOf s ≡ Accepted = sym (c .before .before .judged .ensures) ∙ c .enum-told .given .1 in
+    let e : imageVerdictOf s ≡ Accepted = sym (c .before .before .image-verdict .ensures) ∙ c .enum-told .given .1 in
     omega (arith, image-judged s Accepted .0 e .0)
 
 enum-told-2 : tie.Need-enum-told-2
@@ -31,21 +31,21 @@ fresh-requires c κs = search needs
 
 returns : tie.Need-returns
 returns c =
-    let j = c .before .before .before .judged in
-    image-by (c .before .before .before .before .before .args .bytes .now) (j .result) _ (c .state-at .result) (j .ensures) (c .before .enum-told .given .1) (c .state-at .ensures)
+    let j = c .before .before .before .image-verdict in
+    image-by (c .before .before .before .before .before .args .bytes .now) (j .result) _ (c .image-state .result) (j .ensures) (c .before .enum-told .given .1) (c .image-state .ensures)
 
 returns-2 : tie.Need-returns-2
 returns-2 c =
-    let j = c .before .before .before .judged in
+    let j = c .before .before .before .image-verdict in
     image-by (c .before .before .before .before .before .args .bytes .now) (j .result) _ (c .fresh .result) (j .ensures) (c .before .enum-told2 .given .1) (c .fresh .ensures)
 
 pub image-read-spec : {M : Type 1} → statement M
 image-read-spec =
     tie.close
     (tie.spec
-    judged-requires
+    image-verdict-requires
     enum-told
-    state-at-requires
+    image-state-requires
     enum-told-2
     fresh-requires
     returns

@@ -14,8 +14,8 @@ use Rattle.operand.proofs.Flags.{entry-packed}
 use Rattle.low_groups.proofs.bit_operation.Statement.{statement}
 use Rattle.low_groups.proofs.bit_operation.Tie as tie
 
-flags-of-requires : tie.Need-flags-of-requires
-flags-of-requires c κs = search needs
+operand-flags-requires : tie.Need-operand-flags-requires
+operand-flags-requires c κs = search needs
 
 poep-only-requires : tie.Need-poep-only-requires
 poep-only-requires c κs = search needs
@@ -24,7 +24,7 @@ returns : tie.Need-returns
 returns c =
     let a = c .before .before .args in
     c .poep-only .ensures ∙ entry-packed PoepOnly 1 1024 (omega arith) refl refl (ea (modeOf (a .op)) (regOf (a .op)) true (not (matches btst (a .op))))
-    (c .before .flags-of .ensures ∙ ap (λ (t : Bool). accessFlags (ea (modeOf (a .op)) (regOf (a .op)) true (not t))) (masked btst (a .op)))
+    (c .before .operand-flags .ensures ∙ ap (λ (t : Bool). accessFlags (ea (modeOf (a .op)) (regOf (a .op)) true (not t))) (masked btst (a .op)))
 
 pub bit-operation-spec : {M : Type 1} → statement M
-bit-operation-spec = tie.close (tie.spec flags-of-requires poep-only-requires returns)
+bit-operation-spec = tie.close (tie.spec operand-flags-requires poep-only-requires returns)

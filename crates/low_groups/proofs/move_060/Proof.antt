@@ -12,8 +12,8 @@ use Rattle.operand.proofs.Flags.{flags-together, entry-packed}
 use Rattle.low_groups.proofs.move_060.Statement.{statement}
 use Rattle.low_groups.proofs.move_060.Tie as tie
 
-flags-of-requires : tie.Need-flags-of-requires
-flags-of-requires c κs = search needs
+operand-flags-requires : tie.Need-operand-flags-requires
+operand-flags-requires c κs = search needs
 
 destination-flags-requires : tie.Need-destination-flags-requires
 destination-flags-requires c κs = search needs
@@ -28,8 +28,8 @@ returns c =
     let to = ea (dstModeOf op) (dstRegOf op) false true in
     c .new .ensures
     ∙ entry-packed PoepSoep 1 1024 (omega arith) refl refl (together (read op) to)
-    (flags-together (read op) to (c .before .before .flags-of .ensures) (c .before .destination-flags .ensures))
+    (flags-together (read op) to (c .before .before .operand-flags .ensures) (c .before .destination-flags .ensures))
 
 pub move-060-spec : {M : Type 1} → statement M
 move-060-spec =
-    tie.close (tie.spec flags-of-requires destination-flags-requires new-requires returns)
+    tie.close (tie.spec operand-flags-requires destination-flags-requires new-requires returns)

@@ -5,10 +5,10 @@ use Prim.Native.Nat.{ℕ, _+_}
 use native.Mathlib.Omega.{arith}
 use borrow.Author.Needs.{needs}
 use Rattle.bits.specs.Fields.{modeOf, regOf, dstModeOf, dstRegOf}
-use Rattle.registers.specs.Operands.{operandSets}
+use Rattle.masks.specs.Operands.{operandSets}
 use Rattle.masks.specs.Masks.{dyadicSets}
-use Rattle.registers.proofs.Registers.{mask-only}
-use Rattle.registers.proofs.Sets.{pair-uses, pair-defs}
+use Rattle.masks.proofs.RegistersLaws.{mask-only}
+use Rattle.masks.proofs.Sets.{pair-uses, pair-defs}
 use Rattle.masks.proofs.Opmodes.{opmode-masks}
 use Rattle.masks.proofs.dyadic_masks.Statement.{statement}
 use Rattle.masks.proofs.dyadic_masks.Tie as tie

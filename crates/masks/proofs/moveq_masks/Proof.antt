@@ -4,8 +4,8 @@ use native.Mathlib.Omega.{arith}
 use borrow.Author.Needs.{needs}
 use Rattle.bits.specs.Fields.{dstRegOf}
 use Rattle.masks.specs.Masks.{moveqSets}
-use Rattle.registers.proofs.Registers.{mask-none, mask-only}
-use Rattle.registers.proofs.Sets.{pair}
+use Rattle.masks.proofs.RegistersLaws.{mask-none, mask-only}
+use Rattle.masks.proofs.Sets.{pair}
 use Rattle.masks.proofs.moveq_masks.Statement.{statement}
 use Rattle.masks.proofs.moveq_masks.Tie as tie
 

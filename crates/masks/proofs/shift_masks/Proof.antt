@@ -13,12 +13,12 @@ use Rattle.bits.specs.Words.{bit}
 use Rattle.bits.proofs.Patterns.{hit, miss}
 use Rattle.bits.proofs.Rows.{Left, begin, skip, found, last}
 use Rattle.bits.proofs.Words.{meets-bit}
-use Rattle.registers.specs.Registers.{D, union, maskOfRegs}
+use Rattle.masks.specs.Registers.{D, union, maskOfRegs}
 use Rattle.bits.specs.Instructions.{size11}
-use Rattle.registers.specs.Operands.{uses_defines_, maskPair}
+use Rattle.masks.specs.Operands.{uses_defines_, maskPair}
 use Rattle.masks.specs.Masks.{countUses, shiftRows, shiftSets}
-use Rattle.registers.proofs.Registers.{mask-or, mask-only}
-use Rattle.registers.proofs.Sets.{pair, mask-where, mask-unless}
+use Rattle.masks.proofs.RegistersLaws.{mask-or, mask-only}
+use Rattle.masks.proofs.Sets.{pair, mask-where, mask-unless}
 use Rattle.masks.proofs.shift_masks.Statement.{statement}
 use Rattle.masks.proofs.shift_masks.Tie as tie
 

@@ -10,8 +10,8 @@ use Rattle.operand.proofs.Flags.{entry-packed}
 use Rattle.operand.proofs.alu_of.Statement.{statement}
 use Rattle.operand.proofs.alu_of.Tie as tie
 
-flags-of-requires : tie.Need-flags-of-requires
-flags-of-requires c κs = search needs
+operand-flags-requires : tie.Need-operand-flags-requires
+operand-flags-requires c κs = search needs
 
 new-requires : tie.Need-new-requires
 new-requires c κs = search needs
@@ -19,7 +19,7 @@ new-requires c κs = search needs
 returns : tie.Need-returns
 returns c =
     let a = c .before .before .args in
-    c .new .ensures ∙ entry-packed PoepSoep 1 1024 (omega arith) refl refl (ea (modeOf (a .op)) (regOf (a .op)) (a .read) (a .write)) (c .before .flags-of .ensures)
+    c .new .ensures ∙ entry-packed PoepSoep 1 1024 (omega arith) refl refl (ea (modeOf (a .op)) (regOf (a .op)) (a .read) (a .write)) (c .before .operand-flags .ensures)
 
 pub alu-of-spec : {M : Type 1} → statement M
-alu-of-spec = tie.close (tie.spec flags-of-requires new-requires returns)
+alu-of-spec = tie.close (tie.spec operand-flags-requires new-requires returns)

@@ -1,5 +1,6 @@
 -- `ea_flags`: the three flags, or-ed, add up.
 -- Assumes nothing.
+use Prim.Native.Nat.{_/_, _%_}
 use borrow.Author.Needs.{needs}
 use Rattle.operand.proofs.Flags.{flags-ea}
 use Rattle.operand.proofs.ea_flags.Statement.{statement}
@@ -23,7 +24,7 @@ flag-if-requires c κs = search needs
 returns : tie.Need-returns
 returns c =
     let a = c .before .before .before .before .before .args in
-    flags-ea (a .mode) (a .reg) (a .read) (a .write) (c .before .before .before .before .is-memory .ensures)
+    flags-ea (a .six / 8) (a .six % 8) (a .read) (a .write) (c .before .before .before .before .is-memory .ensures)
     (c .before .before .before .is-indexed .ensures) (c .before .before .flag-if-both .ensures) (c .before .flag-if-both2 .ensures)
     (c .flag-if .ensures)
 

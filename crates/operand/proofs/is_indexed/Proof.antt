@@ -1,4 +1,4 @@
--- `is_indexed`: the table agrees with the rule at every mode and reg.
+-- `is_indexed`: the table agrees with the rule at all six bits.
 -- Assumes nothing.
 use mathlib.Core.Path.{refl}
 use borrow.Author.Needs.{needs}
@@ -7,20 +7,11 @@ use Rattle.operand.proofs.Tables.{looked-up}
 use Rattle.operand.proofs.is_indexed.Statement.{statement}
 use Rattle.operand.proofs.is_indexed.Tie as tie
 
-mul-result : tie.Need-mul-result
-mul-result c = search needs
-
-add-result : tie.Need-add-result
-add-result c = search needs
-
-cast-result : tie.Need-cast-result
-cast-result c = search needs
-
 shr-result : tie.Need-shr-result
 shr-result c = search needs
 
 returns : tie.Need-returns
-returns c = looked-up 0x08FF000000000000 isIndexed refl (c .args .mode) (c .args .reg) (search needs) (search needs)
+returns c = looked-up 0x08FF000000000000 isIndexed refl (c .args .six) (c .pre)
 
 pub is-indexed-spec : {M : Type 1} → statement M
-is-indexed-spec = tie.close (tie.spec mul-result add-result cast-result shr-result returns)
+is-indexed-spec = tie.close (tie.spec shr-result returns)

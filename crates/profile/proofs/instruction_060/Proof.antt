@@ -7,7 +7,7 @@ use Rattle.bits.specs.Fields.{groupOf}
 use Rattle.classifier.specs.Classify.{classifyOf}
 use Rattle.classifier.proofs.Groups as words
 use Rattle.masks.specs.Masks.{setsOf}
-use Rattle.masks.proofs.Groups as masks
+use Rattle.masks.proofs.MasksGroups as masks
 use Rattle.profile.proofs.Joining.{both, group-none}
 use Rattle.profile.proofs.instruction_060.Statement.{statement}
 use Rattle.profile.proofs.instruction_060.Tie as tie

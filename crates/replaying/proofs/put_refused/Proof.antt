@@ -3,7 +3,7 @@
 use native.Mathlib.Omega.{arith}
 use Rattle.text.specs.Written.{textOf}
 use Rattle.text.proofs.Writing.{Wrote, wrote, written-within, wrote-more, wrote-whole}
-use Rattle.lines.specs.Lines.{refusalLine}
+use Rattle.listing.specs.Lines.{refusalLine}
 use borrow.Author.Needs.{needs}
 use Rattle.replaying.proofs.put_refused.Statement.{statement}
 use Rattle.replaying.proofs.put_refused.Tie as tie

@@ -8,9 +8,10 @@ use borrow.Author.Needs.{needs}
 use lib.ListN.{length, take, getD, set, length-set}
 use lib.Seq.{take-all}
 use Rattle.little_endian.specs.Numbers.{putAt}
-use Rattle.text.proofs.Writing.{put-none, put-take, wrote-whole}
+use Rattle.text.proofs.Writing.{put-take, wrote-whole}
 use Rattle.text.proofs.put_bytes.Statement.{statement}
 use Rattle.text.proofs.put_bytes.Tie as tie
+use Rattle.little_endian.proofs.Loops.{put-none}
 
 abbrev Inv-loop : tie.InvT-loop
 Inv-loop out₀ at s i₀ out i = (i ≤ length s) × (at + length s ≤ length out₀) × (length out ≡ length out₀) × (out ≡ putAt out₀ at (take i s))

@@ -3,12 +3,12 @@
 use mathlib.Core.Path.{ap, _∙_}
 use borrow.Author.Needs.{needs}
 use Rattle.window.specs.declared.Window.{Window}
-use Rattle.step.specs.declared.Oep060Timing.{Oep060Timing}
-use Rattle.step.specs.Step.{timingAt}
-use Rattle.numbers.specs.Windows.{windowAt}
-use Rattle.numbers.proofs.Held.{window-held}
+use Rattle.state.specs.declared.Oep060Timing.{Oep060Timing}
+use Rattle.state.specs.Timing.{timingAt}
+use Rattle.in_place.specs.WindowNumbers.{windowAt}
+use Rattle.in_place.proofs.NumbersHeld.{window-held}
 use Rattle.records.specs.Trace.{readTrace}
-use Rattle.trace.specs.Run.{outcomeOf}
+use Rattle.trace.specs.Run.{traceOutcomeOf}
 use Rattle.trace.proofs.run_all.Statement.{statement}
 use Rattle.trace.proofs.run_all.Tie as tie
 
@@ -32,7 +32,7 @@ returns c =
     let t = a .timing in
     let e =
     k .run-records .ensures
-    ∙ ap (λ (w : Window). outcomeOf (readTrace (a .trace .now)) (a .costs .now) (timingAt (t .cache .tags) (t .cache .state) w))
+    ∙ ap (λ (w : Window). traceOutcomeOf (readTrace (a .trace .now)) (a .costs .now) (timingAt (t .cache .tags) (t .cache .state) w))
     (ap windowAt (p .put-window .ensures) ∙ window-held (t .window)) in
     rw (← c .timing-at .ensures) at e
 

@@ -5,9 +5,9 @@ use mathlib.Core.Path.{_∙_}
 use native.Mathlib.Omega.{arith}
 use borrow.Author.Needs.{needs}
 use lib.ListN.{length}
-use Rattle.by_numbers.specs.Lent.{Lent, lent, stateAt}
-use Rattle.numbers.specs.Windows.{windowAt}
-use Rattle.record.proofs.Reading.{read-end}
+use Rattle.in_place.specs.Lent.{Lent, lent, stateAt}
+use Rattle.in_place.specs.WindowNumbers.{windowAt}
+use Rattle.records.proofs.Reading.{read-end}
 use Rattle.records.specs.Trace.{readTrace}
 use Rattle.trace.proofs.Going.{Going, going-start, going-end, going-total}
 use Rattle.trace.proofs.Turning.{turn-gone}
@@ -35,7 +35,7 @@ here : (k : tie.After-run-record Inv-loop μ-loop) → loopAt k .loop .at < leng
 here k = omega arith
 
 -- a cost is a number of 32 bits
-small : (k : tie.After-run-record Inv-loop μ-loop) → k .run-record .result .cost < 2 ^ 32
+small : (k : tie.After-run-record Inv-loop μ-loop) → k .run-record .result .cost .0 < 2 ^ 32
 small k = search needs
 
 see-window-requires : tie.Need-see-window-requires Inv-loop μ-loop

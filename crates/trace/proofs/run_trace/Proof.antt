@@ -7,8 +7,8 @@ use Rattle.trace.proofs.Judging.{not-taken, taken}
 use Rattle.trace.proofs.run_trace.Statement.{statement}
 use Rattle.trace.proofs.run_trace.Tie as tie
 
-judge-requires : tie.Need-judge-requires
-judge-requires c κs = search needs
+judge-trace-requires : tie.Need-judge-trace-requires
+judge-trace-requires c κs = search needs
 
 enum-known-verdict : tie.Need-enum-known-verdict
 enum-known-verdict c = search needs
@@ -22,13 +22,13 @@ enum-told c = search needs
 run-all-requires : tie.Need-run-all-requires
 run-all-requires c κs =
     let k = c .before in
-    let t = taken-so _ _ (sym (k .before .before .judge .ensures) ∙ k .enum-told .given .1) in
+    let t = taken-so _ _ (sym (k .before .before .judge-trace .ensures) ∙ k .enum-told .given .1) in
     (t .size, t .fits)
 
 returns : tie.Need-returns
 returns c =
     let k = c .before .before in
-    not-taken _ _ _ (sym (k .before .before .judge .ensures) ∙ k .verdict .given .1) (c .refused .ensures)
+    not-taken _ _ _ (sym (k .before .before .judge-trace .ensures) ∙ k .verdict .given .1) (c .refused .ensures)
 
 same-length : tie.Need-same-length
 same-length c = search needs
@@ -36,13 +36,13 @@ same-length c = search needs
 returns-2 : tie.Need-returns-2
 returns-2 c =
     let k = c .before .before .before .before in
-    taken _ _ _ (sym (k .before .before .judge .ensures) ∙ k .enum-told .given .1) (c .before .before .run-all .ensures)
+    taken _ _ _ (sym (k .before .before .judge-trace .ensures) ∙ k .enum-told .given .1) (c .before .before .run-all .ensures)
 
 pub run-trace-spec : {M : Type 1} → statement M
 run-trace-spec =
     tie.close
     (tie.spec
-    judge-requires
+    judge-trace-requires
     enum-known-verdict
     refused-requires
     enum-told

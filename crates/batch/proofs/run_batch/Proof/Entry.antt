@@ -23,23 +23,24 @@ use denote.Triple.Statement.{Triple}
 use denote.Triple.Entry.{Vals}
 use denote.Triple.Walked.{Stays, stay-none-slice, stay-slice, stay-none, walkOf}
 use denote.Exit.{yes}
-use Rattle.step.specs.declared.Oep060Timing.{Oep060Timing}
-use Rattle.step.specs.declared.Retirement.{Retirement}
-use Rattle.step.specs.Step.{seenOf}
-use Rattle.outcome.specs.declared.Ran.{Ran}
-use Rattle.ends.specs.declared.Judged.{Judged}
-use Rattle.ends.specs.Ends.{judgedOf, finishOf}
-use Rattle.step.proofs.Oep060Timing as S
-use Rattle.step.proofs.Retirement as R
+use Rattle.state.specs.declared.Oep060Timing.{Oep060Timing}
+use Rattle.state.specs.declared.Retirement.{Retirement}
+use Rattle.state.specs.Timing.{seenOf}
+use Rattle.refusals.specs.declared.outcome.Ran.{Ran}
+use Rattle.batch.specs.declared.Judged.{Judged}
+use Rattle.batch.specs.Turning.{judgedBatchOf, finishOf}
+use Rattle.state.proofs.Oep060Timing as S
+use Rattle.state.proofs.Retirement as R
 use Rattle.batch.proofs.Run.{runs-within}
 use Rattle.batch.proofs.Loop.{Now, rec}
-use Rattle.ends.proofs.judge.Symbol.{name as #judge}
-use Rattle.ends.proofs.begin.Symbol.{name as #begin}
-use Rattle.ends.proofs.finish.Symbol.{name as #finish}
-use Rattle.turns.proofs.turn.Symbol.{name as #turn}
+use Rattle.batch.proofs.judge_batch.Symbol.{name as #judge}
+use Rattle.batch.proofs.begin.Symbol.{name as #begin}
+use Rattle.batch.proofs.finish.Symbol.{name as #finish}
+use Rattle.batch.proofs.pay.Symbol.{name as #pay}
+use Rattle.step.proofs.cycles_060.Symbol.{name as #step}
 use Rattle.batch.proofs.run_batch as f
 use Rattle.batch.proofs.run_batch.Proof.Values.{svals}
-use Rattle.batch.proofs.run_batch.Proof.Cited.{Judge, Begin, Turn, Finish}
+use Rattle.batch.proofs.run_batch.Proof.Cited.{Judge, Begin, Step, Pay, Finish}
 
 abbrev pub stayed : Stays (f.ended .signature .params) (f.ended .kept)
 stayed = (stay-none-slice (0 ∷ []) tt (plain (λ _. R.the-row)) yes, (stay-slice (1 ∷ []) tt (plain (λ _. u32)), (stay-none (λ _. S.the-row) yes, tt)))
@@ -52,7 +53,8 @@ pub record Setting {M : Type 1} (𝓤 : URA M) (H : Heap 𝓤) (A : Atoms 𝓤) 
   pub 𝓣 : Tables 𝓤 H
   pub known-judge : Triple 𝓤 (𝓣 .C #judge) (Judge 𝓤 H A mem run)
   pub known-begin : Triple 𝓤 (𝓣 .C #begin) (Begin 𝓤 H A mem run)
-  pub known-turn : Triple 𝓤 (𝓣 .C #turn) (Turn 𝓤 H A mem run)
+  pub known-step : Triple 𝓤 (𝓣 .C #step) (Step 𝓤 H A mem run)
+  pub known-pay : Triple 𝓤 (𝓣 .C #pay) (Pay 𝓤 H A mem run)
   pub known-finish : Triple 𝓤 (𝓣 .C #finish) (Finish 𝓤 H A mem run)
   pub κ : Lft
   pub κ′ : Lft
@@ -81,10 +83,6 @@ module _ {M : Type 1} {𝓤 : URA M} {H : Heap 𝓤} {A : Atoms 𝓤} (Z : Setti
   abbrev pub costs-ref : GName → List ℕ → RefT (List ℕ)
   costs-ref δ l = record { ptr = (b′, o′); name = δ; now = l }
 
-  -- a lent local's
-  abbrev pub array-ref : ℕ → GName → List ℕ → RefT (List ℕ)
-  array-ref p δ l = record { ptr = (p, 0); name = δ; now = l }
-
   abbrev pub args : RefT (List Retirement) × (RefT (List ℕ) × (Oep060Timing × Unit {0}))
   args = (rs-ref, (costs-ref γ′ ps, (s, tt)))
 
@@ -102,7 +100,7 @@ module _ {M : Type 1} {𝓤 : URA M} {H : Heap 𝓤} {A : Atoms 𝓤} (Z : Setti
 
   -- the verdict, and how many records are run
   abbrev pub judged : Judged
-  judged = judgedOf (length rs) (length ps)
+  judged = judgedBatchOf (length rs) (length ps)
 
   abbrev pub count : ℕ
   count = judged .run
@@ -122,7 +120,7 @@ module _ {M : Type 1} {𝓤 : URA M} {H : Heap 𝓤} {A : Atoms 𝓤} (Z : Setti
 
   -- what `finish` gives at t, and the record to run
   abbrev pub result-at : N → Ran
-  result-at t = finishOf (t .ts) (t .bs) (t .c) judged
+  result-at t = finishOf (t .c) judged
 
   abbrev pub record-at : N → Retirement
   record-at t = rec count rs start ps t

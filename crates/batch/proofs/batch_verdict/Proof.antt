@@ -1,0 +1,21 @@
+-- `batch_verdict`: at each return the two tests give the verdict.
+-- Assumes nothing.
+use borrow.Author.Tests.{lt-ltb, le-ltb}
+use Rattle.batch.specs.Judge.{batchVerdictOf}
+use Rattle.batch.proofs.batch_verdict.Statement.{statement}
+use Rattle.batch.proofs.batch_verdict.Tie as tie
+
+returns : tie.Need-returns
+unfolding batchVerdictOf
+returns c = simp (lt-ltb _ _ (c .if1 .taken))
+
+returns-2 : tie.Need-returns-2
+unfolding batchVerdictOf
+returns-2 c = simp (le-ltb _ _ (c .before .if1 .left), lt-ltb _ _ (c .if2 .taken))
+
+returns-3 : tie.Need-returns-3
+unfolding batchVerdictOf
+returns-3 c = simp (le-ltb _ _ (c .before .if1 .left), le-ltb _ _ (c .if2 .left))
+
+pub batch-verdict-spec : {M : Type 1} → statement M
+batch-verdict-spec = tie.close (tie.spec returns returns-2 returns-3)

@@ -1,0 +1,5 @@
+pub mod Largest
+pub mod Seen
+pub mod Led
+pub mod Sound
+pub mod Zero

@@ -1,2 +1,0 @@
--- The retirements that cost 0. One file.
-pub mod Free

@@ -1,2 +1,0 @@
--- Hexadecimal digits. One file.
-pub mod Hex

@@ -1,0 +1,105 @@
+// A batch of 32-bit words: the retirements that they stand for, run in place on lent numbers.
+ghost use mathlib.Core.Path.{_≡_};
+ghost use Prim.Native.Nat.{_+_, _*_, _/_, _<_, _≤_};
+ghost use lib.ListN.{length, getD};
+ghost use Rattle.refusals.specs.declared.Verdict.the-variants.{Accepted};
+ghost use Rattle.batch.specs.Batch.{batchAcceptedOf};
+ghost use Rattle.in_place.specs.Lent.{lent, stateAt};
+ghost use Rattle.in_place.specs.Retire.{paid, retireAtOf};
+ghost use Rattle.host.specs.HostRan.{hostRanOf, hostOutcome};
+ghost use Rattle.host.specs.HostWords.{wordsAt, retirementsOf, hostOutcomeOfBatch, runBatchAtOf};
+use crate::results::HostRan;
+use crate::results::host_ran;
+use class_word::Clocks;
+use in_place::WindowNumbers;
+use in_place::see_window;
+use refusals::Verdict;
+
+fn word_at(records: &[u32], at: usize) -> u32
+    requires { ⌜ at < length (now records) ⌝ }
+    ensures { λ r. ⌜ r ≡ getD (now (records .entry)) at 0 ⌝ }
+{
+    records[at]
+}
+
+// The record of the words from 4 * i on, which are there, retired in place: its clocks.
+fn retire_record(
+    records: &[u32],
+    i: usize,
+    tags: &mut [u32; 256],
+    state: &mut [u8; 256],
+    window: &mut WindowNumbers,
+) -> Clocks
+    requires { ⌜ 4 * i + 4 ≤ length (now records) ⌝ }
+    ensures { λ r. ⌜ paid r (lent (now (tags .exit)) (now (state .exit)) (now (window .exit)))
+        ≡ retireAtOf (lent (now (tags .entry)) (now (state .entry)) (now (window .entry))) (wordsAt (now
+        (records .entry)) i) ⌝ }
+{
+    let at = 4 * i;
+    let head = word_at(records, at);
+    let ppc = word_at(records, at + 1);
+    let pc = word_at(records, at + 2);
+    let raw = word_at(records, at + 3);
+    Clocks(in_place::retire_at(
+        tags,
+        state,
+        window,
+        (head & 0xFFFF) as u16,
+        (head >> 16) as u16,
+        ppc,
+        pc,
+        little_endian::i32_of(raw),
+    ))
+}
+
+// The records of a batch that is accepted, each in place: their total.
+fn run_words(
+    records: &[u32],
+    costs: &mut [u32],
+    tags: &mut [u32; 256],
+    state: &mut [u8; 256],
+    window: &mut WindowNumbers,
+) -> u64
+    requires { ⌜ (length (now records) / 4 ≤ length (now costs)) × (length (now records) / 4 ≤ 1048576) ⌝ }
+    ensures { λ r. ⌜ hostOutcome (hostRanOf Accepted (length (now (records .entry)) / 4) r) (now (costs .exit)) (lent
+        (now (tags .exit)) (now (state .exit)) (now (window .exit)))
+        ≡ hostOutcomeOfBatch (lent (now (tags .entry)) (now (state .entry)) (now (window .entry)))
+        (batchAcceptedOf (retirementsOf (now (records .entry))) (now (costs .entry)) (stateAt (lent
+        (now (tags .entry)) (now (state .entry)) (now (window .entry))))) ⌝ }
+{
+    let count = records.len() / 4;
+    see_window(window);
+    let mut total: u64 = 0;
+    let mut i: usize = 0;
+    while i < count {
+        let cost = retire_record(records, i, tags, state, window);
+        costs[i] = cost.0;
+        total += cost.0 as u64;
+        i += 1;
+    }
+    total
+}
+
+// A batch of records of four words each; words beyond the last whole record are not read.
+pub fn run_batch_at(
+    records: &[u32],
+    costs: &mut [u32],
+    tags: &mut [u32; 256],
+    state: &mut [u8; 256],
+    window: &mut WindowNumbers,
+) -> HostRan
+    ensures { λ r. ⌜ hostOutcome r (now (costs .exit)) (lent (now (tags .exit)) (now (state .exit))
+        (now (window .exit)))
+        ≡ runBatchAtOf (now (records .entry)) (now (costs .entry)) (lent (now (tags .entry)) (now (state .entry))
+        (now (window .entry))) ⌝ }
+{
+    let count = records.len() / 4;
+    let verdict = batch::batch_verdict(count, costs.len());
+    match verdict {
+        Verdict::Refused(_) => host_ran(verdict, 0, 0),
+        Verdict::Accepted => {
+            let total = run_words(records, costs, tags, state, window);
+            host_ran(verdict, count, total)
+        }
+    }
+}

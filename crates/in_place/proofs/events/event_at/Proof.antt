@@ -1,0 +1,84 @@
+-- `event_at`: each kind of event by its own row.
+-- Assumes nothing.
+use mathlib.Core.Path.{_≡_, refl, sym, ap, _∙_}
+use mathlib.Core.List.{List, [], _∷_}
+use Prim.Native.Nat.{ℕ}
+use Rattle.class_word.specs.Word.{clocks}
+use Rattle.state.specs.declared.Event.{Event}
+use Rattle.state.specs.Events.{countOf}
+use Rattle.in_place.specs.Lent.{Lent, lent}
+use Rattle.in_place.specs.Retire.{Paid, paid, paidFor}
+use borrow.Author.Needs.{needs}
+use Rattle.in_place.proofs.events.event_at.Statement.{statement}
+use Rattle.in_place.proofs.events.event_at.Tie as tie
+
+abbrev from : tie.Start → Lent
+from s = lent (s .args .tags .now) (s .args .state .now) (s .args .window .now)
+
+-- what holds of the event that the arm names holds of this one
+told : (l : Lent) {e x : Event} → e ≡ x → {p : Paid} → p ≡ paidFor l x → {n : ℕ} → n ≡ countOf (x ∷ []) → (p ≡ paidFor l e) × (n ≡ countOf (e ∷ []))
+told l h q m = (q ∙ sym (ap (paidFor l) h), m ∙ sym (ap (λ (y : Event). countOf (y ∷ [])) h))
+
+enum-known-e : tie.Need-enum-known-e
+enum-known-e c = search needs
+
+retire-in-place-requires : tie.Need-retire-in-place-requires
+retire-in-place-requires c κs = search needs
+
+enum-told : tie.Need-enum-told
+enum-told c = search needs
+
+shut-window-requires : tie.Need-shut-window-requires
+shut-window-requires c κs = search needs
+
+enum-told-2 : tie.Need-enum-told-2
+enum-told-2 c = search needs
+
+clear-all-at-requires : tie.Need-clear-all-at-requires
+clear-all-at-requires c κs = search needs
+
+enum-told-3 : tie.Need-enum-told-3
+enum-told-3 c = search needs
+
+clear-user-at-requires : tie.Need-clear-user-at-requires
+clear-user-at-requires c κs = search needs
+
+returns : tie.Need-returns
+returns c =
+    let k = c .before .before .before .before .before in
+    told (from (k .before .before)) (k .e .given .1) (c .retire-in-place .ensures) refl
+
+returns-2 : tie.Need-returns-2
+returns-2 c =
+    let k = c .before .before in
+    let s = k .before .before in
+    told (from s) (k .enum-told .given .1) (ap (λ (ns : List ℕ). paid (clocks 0) (lent (s .args .tags .now) (s .args .state .now) ns)) (c .shut-window .ensures)) refl
+
+returns-3 : tie.Need-returns-3
+returns-3 c =
+    let k = c .before .before .before in
+    let s = k .before .before in
+    told (from s) (k .enum-told2 .given .1) (ap (paid (clocks 0)) (c .clear-all-at .ensures (s .args .tags .now))) refl
+
+returns-4 : tie.Need-returns-4
+returns-4 c =
+    let k = c .before .before .before in
+    let s = k .before .before in
+    told (from s) (k .enum-told3 .given .1) (ap (paid (clocks 0)) (c .clear-user-at .ensures (s .args .tags .now))) refl
+
+pub event-at-spec : {M : Type 1} → statement M
+event-at-spec =
+    tie.close
+    (tie.spec
+    enum-known-e
+    retire-in-place-requires
+    enum-told
+    shut-window-requires
+    enum-told-2
+    clear-all-at-requires
+    enum-told-3
+    clear-user-at-requires
+    returns
+    returns-2
+    returns-3
+    returns-4)

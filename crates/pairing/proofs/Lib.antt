@@ -1,3 +1,0 @@
-pub mod Largest
-pub mod Seen
-pub mod Led

@@ -1,5 +1,0 @@
-pub mod Choices
-pub mod KindNumbers
-pub mod Reading
-pub mod Records
-pub mod Alike
