@@ -74,18 +74,13 @@ impl BranchCache060 {
         slot.predict(pc)
     }
 
-    // The next cache.
-    pub fn update(mut self, pc: u32, taken: bool, user: bool) -> Self
+    // The next cache: its arrays are copied, and lent to what stores one slot.
+    pub fn update(self, pc: u32, taken: bool, user: bool) -> Self
         ensures { λ r. ⌜ r ≡ cacheUpdateOf self pc taken user ⌝ }
     {
-        let i = BranchCache060::slot(pc);
-        let slot = Slot {
-            tag: self.tags[i],
-            byte: self.state[i],
-        };
-        let next = slot.update(pc, taken, user);
-        self.tags[i] = next.tag;
-        self.state[i] = next.byte;
-        self
+        let mut tags = self.tags;
+        let mut state = self.state;
+        update_at(&mut tags, &mut state, pc, taken, user);
+        BranchCache060 { tags, state }
     }
 }

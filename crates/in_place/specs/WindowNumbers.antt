@@ -7,9 +7,9 @@
 --   numbersOf w  ==  the five numbers of a window: 1 for yes, 0 for no; so five zeros for the shut one: "A shut window
 --                    has zeros"
 --
--- `windowAt` takes the numbers as they come. That of a shut window the other four are read, and left, as zeros is said
--- by the definitions that are asked of the state: "A state handed in shut with other window fields set is read, and
--- handed back, as if they were zero".
+-- `windowAt` takes the numbers as they come. That of a shut window the other four are read, and handed back, as zeros
+-- is said by the definitions that are asked of the state: "A state handed in shut with other window fields set is read,
+-- and handed back, as if they were zero".
 use Prim.Native.Nat.{ℕ}
 use mathlib.Core.Bool.{Bool, not}
 use mathlib.Core.List.{List, [], _∷_}
