@@ -19,3 +19,9 @@ pub mod DeterminedInPlace
 pub mod DeterminedByHand
 pub mod Moving
 pub mod MovingHosts
+pub mod FactorsCost
+pub mod FactorsCache
+pub mod FactorsStep
+pub mod FactorsBranch
+pub mod FactorsFallback
+pub mod Factors

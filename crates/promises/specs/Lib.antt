@@ -3,6 +3,7 @@
 --   Opcodes      ==  what holds of every opcode's class word
 --   Worked       ==  the worked instructions that are proved
 --   Retirements  ==  what holds of every retirement, break and clear
+--   Factors      ==  what can be told apart of one retirement, and that no more counts
 --   Demand3      ==  demand 3: time moves
 --   Moving       ==  demand 3 of the crate's board, and of every trace and batch
 --   Traces       ==  what holds of every run of a trace
@@ -13,6 +14,7 @@
 pub mod Opcodes
 pub mod Worked
 pub mod Retirements
+pub mod Factors
 pub mod Demand3
 pub mod Moving
 pub mod Traces
