@@ -1,4 +1,4 @@
-// Standard input, whole: what the cost lister and the replay read before they work.
+// Standard input, whole: what the cost lister, the replay and `show_trace` read before they work.
 //
 // `read_input` is all there is. A program lends one byte more than it takes, so that longer input is seen to be longer.
 ghost use lib.ListN.{length};

@@ -57,7 +57,7 @@ module _ (trace : List ℕ) (h : length trace ≤ 65536) where
   small : remaining trace 0 ≤ 65536
   small = omega arith
 
-  judged-same : shortTraceOf trace ≡ readTrace trace
+  pub judged-same : shortTraceOf trace ≡ readTrace trace
   unfolding shortTraceOf
   judged-same = simp (le-ltb _ _ h)
 

@@ -76,6 +76,9 @@ raw-read trace at =
     by-test RawRead (eqb (remaining trace at) 0) _ _ (λ _. tt)
     (λ _. by-test RawRead (ltb (remaining trace at) 4) _ _ (λ _. tt) (λ _. raw-body trace at (kindOf (kindAt trace at))))
 
+pub got-raw : (trace : List ℕ) (at : ℕ) {e : Event} {next : ℕ} → readAt trace at ≡ Got e next → Raw e
+got-raw trace at q = subst RawRead q (raw-read trace at)
+
 -- what holds of the events of a trace that stands in so many bytes
 abbrev pub Short : ℕ → Trace → Type 0
 Short size (events es) = (20 * countOf es ≤ size) × Raws es
@@ -91,7 +94,7 @@ short-on trace at f h End q = (omega arith, tt)
 short-on trace at f h (Bad refusal) q = tt
 short-on trace at f h (Got e next) q =
     let w = got-within trace at e next q in
-    short-ahead (remaining trace at) (remaining trace next) e (f next) (omega (arith, count-one e)) (subst RawRead q (raw-read trace at)) (h next)
+    short-ahead (remaining trace at) (remaining trace next) e (f next) (omega (arith, count-one e)) (got-raw trace at q) (h next)
 
 short-in : (most : ℕ) (trace : List ℕ) (at : ℕ) → Short (remaining trace at) (readIn most trace at)
 unfolding readIn

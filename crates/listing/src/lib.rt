@@ -2,7 +2,7 @@
 //
 // `lines` puts single lines (`text`); `table` puts the whole text of a trace that was run, and reads its records again
 // for their opcodes. Here a trace is run (`trace`), its costs into bytes, and `table` is handed both. `replaying` calls
-// `list_into`, the cost lister `list_trace`.
+// `list_into`, the cost lister `list_trace`; `replaying` and `showing` put a refusal by `put_refusal`.
 mod lines;
 mod table;
 
@@ -18,7 +18,7 @@ use refusals::Verdict;
 use state::Oep060Timing;
 
 // The longest trace that the tools take.
-const MOST_LISTED_BYTES: usize = 65536;
+pub const MOST_LISTED_BYTES: usize = 65536;
 
 // Room for the longest text: 3,276 retirements of 20 bytes, a line of at most 20 characters each, the header and the
 // total.

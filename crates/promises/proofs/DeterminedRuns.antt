@@ -14,6 +14,7 @@ use Rattle.little_endian.proofs.i32_of.Reads as little-endian-i32-of
 use Rattle.little_endian.proofs.put_u16.Reads as little-endian-put-u16
 use Rattle.little_endian.proofs.put_u32.Reads as little-endian-put-u32
 use Rattle.records.proofs.read_record.Reads as records-read-record
+use Rattle.records.proofs.check_all.Reads as records-check-all
 use Rattle.records.proofs.judge_trace.Reads as records-judge-trace
 use Rattle.in_place.proofs.see_window.Reads as in-place-see-window
 use Rattle.trace.proofs.run_trace.Reads as trace-run-trace
@@ -22,11 +23,14 @@ use Rattle.image.proofs.image_read.Reads as image-image-read
 use Rattle.text.proofs.put_bytes.Reads as text-put-bytes
 use Rattle.text.proofs.put_hex4.Reads as text-put-hex4
 use Rattle.text.proofs.put_hex2.Reads as text-put-hex2
+use Rattle.text.proofs.put_hex8.Reads as text-put-hex8
 use Rattle.text.proofs.put_decimal.Reads as text-put-decimal
+use Rattle.text.proofs.put_signed.Reads as text-put-signed
 use Rattle.listing.proofs.put_refusal.Reads as listing-put-refusal
 use Rattle.listing.proofs.list_into.Reads as listing-list-into
 use Rattle.listing.proofs.list_trace.Reads as listing-list-trace
 use Rattle.replaying.proofs.replay_text.Reads as replaying-replay-text
+use Rattle.showing.proofs.show_trace.Reads as showing-show-trace
 use Rattle.batch.proofs.batch_verdict.Reads as batch-batch-verdict
 
 module _ (κs : Lifetimes.Lfts 0) where
@@ -52,6 +56,9 @@ module _ (κs : Lifetimes.Lfts 1) where
   pub records-read-record-determined : Determined result (records-read-record.Post κs)
   records-read-record-determined i r r′ x x′ p q = p ∙ sym q
 
+  pub records-check-all-determined : Determined result (records-check-all.Post κs)
+  records-check-all-determined i r r′ x x′ p q = p ∙ sym q
+
   pub records-judge-trace-determined : Determined result (records-judge-trace.Post κs)
   records-judge-trace-determined i r r′ x x′ p q = p ∙ sym q
 
@@ -76,8 +83,14 @@ module _ (κs : Lifetimes.Lfts 1) where
   pub text-put-hex2-determined : Determined (λ r x. written r (now (x .0))) (text-put-hex2.Post κs)
   text-put-hex2-determined i r r′ x x′ p q = p ∙ sym q
 
+  pub text-put-hex8-determined : Determined (λ r x. written r (now (x .0))) (text-put-hex8.Post κs)
+  text-put-hex8-determined i r r′ x x′ p q = p ∙ sym q
+
   pub text-put-decimal-determined : Determined (λ r x. written r (now (x .0))) (text-put-decimal.Post κs)
   text-put-decimal-determined i r r′ x x′ p q = p ∙ sym q
+
+  pub text-put-signed-determined : Determined (λ r x. written r (now (x .0))) (text-put-signed.Post κs)
+  text-put-signed-determined i r r′ x x′ p q = p ∙ sym q
 
   pub listing-put-refusal-determined : Determined (λ r x. written r (now (x .0))) (listing-put-refusal.Post κs)
   listing-put-refusal-determined i r r′ x x′ p q = p ∙ sym q
@@ -94,3 +107,6 @@ module _ (κs : Lifetimes.Lfts 2) where
 
   pub replaying-replay-text-determined : Determined (λ r x. written r (now (x .1 .0))) (replaying-replay-text.Post κs)
   replaying-replay-text-determined i r r′ x x′ p q = p .0 ∙ sym (q .0)
+
+  pub showing-show-trace-determined : Determined (λ r x. written r (now (x .1 .0))) (showing-show-trace.Post κs)
+  showing-show-trace-determined i r r′ x x′ p q = p .0 ∙ sym (q .0)

@@ -1,7 +1,7 @@
 -- What stands at a place of a trace, by what holds of the bytes there; and a record that was read ends within the trace.
 -- Assumes nothing.
 use Prim.Native.Nat.{ℕ, _+_, _≤_, _<_}
-use mathlib.Core.Path.{_≡_, ap, subst, _∙_}
+use mathlib.Core.Path.{_≡_, refl, ap, subst, _∙_}
 use mathlib.Core.Bool.{true, false, not}
 use mathlib.Core.List.{List}
 use native.Mathlib.Omega.{arith}
@@ -9,7 +9,6 @@ use lib.Dec.{eqb, ltb}
 use lib.ListN.{length}
 use borrow.Author.Tests.{lt-ltb, le-ltb, eq-eqb, ne-eqb, ltb-false}
 use Rattle.state.specs.declared.Event.{Event}
-use Rattle.state.specs.declared.Event.the-variants.{Retired, Broken, ClearedAll, ClearedUser}
 use Rattle.refusals.specs.declared.Refusal.the-variants.{Remainder, WrongLength, Cut, Flag}
 use Rattle.refusals.specs.declared.Verdict.{Verdict}
 use Rattle.refusals.specs.declared.Verdict.the-variants.{Accepted, Refused}
@@ -22,17 +21,10 @@ use Rattle.records.specs.declared.record.Read.the-variants.{Got, Bad, En
 use Rattle.records.specs.Kinds.{kindNumber, payloadLength, kindOf}
 use Rattle.records.specs.Faults.{nextPlace, highFlag, faultAt}
 use Rattle.records.proofs.FaultsLaws.{fault-length, fault-cut, fault-flag, fault-none}
-use Rattle.records.specs.Record.{remaining, eventAt, takenBy, recordAt, bodyAt, readAt}
+use Rattle.records.specs.Record.{remaining, eventAt, kindOfEvent, takenBy, recordAt, bodyAt, readAt}
 use Rattle.records.proofs.Choices.{by-test}
 use Rattle.records.proofs.KindNumbers.{kind-found}
 use Rattle.records.specs.Layout.{lengthAt, kindAt}
-
--- how many bytes the payload has that an event stands in
-abbrev pub payloadOf : Event → ℕ
-payloadOf (Retired r) = 16
-payloadOf Broken = 0
-payloadOf ClearedAll = 0
-payloadOf ClearedUser = 0
 
 module _ (trace : List ℕ) (at : ℕ) where
   pub read-end : length trace ≤ at → readAt trace at ≡ End
@@ -75,13 +67,13 @@ module _ (trace : List ℕ) (at : ℕ) where
   abbrev pub Within : Read → Type 0
   Within End = Unit {0}
   Within (Bad refusal) = Unit {0}
-  Within (Got e next) = (at + 4 + payloadOf e ≤ next) × (next ≤ length trace)
+  Within (Got e next) = (next ≡ nextPlace at (kindOfEvent e)) × (next ≤ length trace)
 
   within-event : (kind : Kind) → nextPlace at kind ≤ length trace → Within (Got (eventAt trace at kind) (nextPlace at kind))
-  within-event Retirement h = (omega arith, h)
-  within-event Break h = (omega arith, h)
-  within-event ClearAll h = (omega arith, h)
-  within-event ClearUser h = (omega arith, h)
+  within-event Retirement h = (refl, h)
+  within-event Break h = (refl, h)
+  within-event ClearAll h = (refl, h)
+  within-event ClearUser h = (refl, h)
 
   -- a record that is taken is all there
   abbrev pub Held : Kind → Verdict → Type 0
@@ -110,5 +102,5 @@ module _ (trace : List ℕ) (at : ℕ) where
       by-test Within (eqb (remaining trace at) 0) _ _ (λ _. tt)
       (λ _. by-test Within (ltb (remaining trace at) 4) _ _ (λ _. tt) (λ _. within-body (kindOf (kindAt trace at))))
 
-  pub got-ends : (e : Event) (next : ℕ) → readAt trace at ≡ Got e next → (at + 4 + payloadOf e ≤ next) × (next ≤ length trace)
+  pub got-ends : (e : Event) (next : ℕ) → readAt trace at ≡ Got e next → (next ≡ nextPlace at (kindOfEvent e)) × (next ≤ length trace)
   got-ends e next q = subst Within q within

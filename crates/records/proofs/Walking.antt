@@ -18,10 +18,10 @@ use Rattle.state.specs.Events.{countOf}
 -- a record that was read takes 4 bytes, and 16 more if it is a retirement, and ends within the trace
 pub got-within : (trace : List ℕ) (at : ℕ) (e : Event) (next : ℕ) → readAt trace at ≡ Got e next
     → (at + 4 + 16 * countOf (e ∷ []) ≤ next) × (next ≤ length trace)
-got-within trace at (Retired r) next q = got-ends trace at (Retired r) next q
-got-within trace at Broken next q = got-ends trace at Broken next q
-got-within trace at ClearedAll next q = got-ends trace at ClearedAll next q
-got-within trace at ClearedUser next q = got-ends trace at ClearedUser next q
+got-within trace at (Retired r) next q = let w = got-ends trace at (Retired r) next q in (omega (arith, w .0), w .1)
+got-within trace at Broken next q = let w = got-ends trace at Broken next q in (omega (arith, w .0), w .1)
+got-within trace at ClearedAll next q = let w = got-ends trace at ClearedAll next q in (omega (arith, w .0), w .1)
+got-within trace at ClearedUser next q = let w = got-ends trace at ClearedUser next q in (omega (arith, w .0), w .1)
 
 -- what goes on alike from every later place is alike
 alike : (trace : List ℕ) (at : ℕ) (f g : ℕ → Trace) → ((next : ℕ) → at + 4 ≤ next → f next ≡ g next) → (r : Read) → readAt trace at ≡ r

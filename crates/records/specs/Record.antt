@@ -3,6 +3,7 @@
 -- `at` is the place in the trace where a record starts.
 --   remaining trace at      ==  how many bytes remain from there on
 --   eventAt trace at kind   ==  the event that a record of this kind stands for, by `retirementAt` of Layout
+--   kindOfEvent e           ==  the kind of the record that stands for an event
 --   takenBy verdict e next  ==  this event and this place, if the verdict takes the record; else the refusal
 --   recordAt trace at kind  ==  a record of this kind: its event and the place after it, or refusal 4, 5 or 6; by
 --                               `faultAt` of Faults
@@ -38,6 +39,12 @@ eventAt trace at K.Retirement = Retired (retirementAt trace at)
 eventAt trace at K.Break = Broken
 eventAt trace at K.ClearAll = ClearedAll
 eventAt trace at K.ClearUser = ClearedUser
+
+abbrev pub kindOfEvent : Event → Kind
+kindOfEvent (Retired r) = K.Retirement
+kindOfEvent Broken = K.Break
+kindOfEvent ClearedAll = K.ClearAll
+kindOfEvent ClearedUser = K.ClearUser
 
 abbrev pub takenBy : Verdict → Event → ℕ → Read
 takenBy Accepted e next = Got e next

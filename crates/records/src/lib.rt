@@ -2,6 +2,7 @@
 //
 // `kinds` has the kinds of records, `layout` their bytes, `faults` what is wrong with one, and `record` reads what
 // stands at a place. Here all records of a trace are checked before any is run, since a refused run writes nothing.
+// `showing`, which writes no costs, calls `check_all`, which asks for no room.
 mod faults;
 mod kinds;
 mod layout;
@@ -42,7 +43,7 @@ fn counted(e: Event) -> usize
 }
 
 // Checks all records, and counts the retirements.
-fn check_all(trace: &[u8]) -> Checked
+pub fn check_all(trace: &[u8]) -> Checked
     ensures { λ r. ⌜ r ≡ checkedOf (readTrace (now (trace .entry))) ⌝ }
 {
     let mut at: usize = 0;

@@ -1,0 +1,4 @@
+pub mod Lengths
+pub mod Reading
+pub mod Going
+pub mod Shown
