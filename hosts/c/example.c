@@ -1,43 +1,16 @@
-/* An example host. It retires the four instructions of document 01's worked trace one by one, and prints the lines that the cost
- * lister prints for them. Then it goes through every other function of timing_060.h once, and holds what they give against that:
- * where anything differs it says so, and its exit status is 1.
+/* An example host. It retires the four instructions of document 01's worked trace one by one, and prints the lines that
+ * the cost lister prints for them. Then it goes through every other function of timing_060.h once, and holds what they
+ * give against that: where anything differs it says so, and its exit status is 1.
  *
- * On x86-64, in this folder, after `rt staticlib host`:
- *     cc -o example example.c ../../target/staticlib/libhost.a
+ * On x86-64, in this folder, after `tools/install PREFIX`, where pkg-config looks into PREFIX/lib/pkgconfig:
+ *     cc -o example example.c $(pkg-config --cflags --libs timing_060)
  * and with no C library:
- *     clang --target=x86_64-unknown-linux-gnu -ffreestanding -nostdinc -I freestanding -fno-stack-protector -nostdlib -static \
- *         -fuse-ld=lld -o example example.c ../../target/staticlib/libhost.a
+ *     clang --target=x86_64-unknown-linux-gnu -ffreestanding -nostdinc -I freestanding -fno-stack-protector \
+ *         -nostdlib -static -fuse-ld=lld -I PREFIX/include -o example example.c PREFIX/lib/libtiming_060.a
  */
-#include "timing_060.h"
+#include <timing_060.h>
+
 #include "system.h"
-
-/* The structs as the library has them: sizes and offsets; that each field holds what it says is seen by the runs. */
-#define AT(type, field, place) _Static_assert(__builtin_offsetof(type, field) == (place), #type " " #field)
-_Static_assert(sizeof(timing_060_record) == 16 && sizeof(timing_060_ran) == 32 && sizeof(timing_060_masks) == 4, "sizes of what crosses");
-_Static_assert(sizeof(timing_060_bytes) == 16 && sizeof(timing_060_bytes_mut) == 16 && sizeof(timing_060_words) == 16 && sizeof(timing_060_words_mut) == 16, "sizes of what is lent");
-AT(timing_060_record, op, 0);
-AT(timing_060_record, flags, 2);
-AT(timing_060_record, ppc, 4);
-AT(timing_060_record, pc, 8);
-AT(timing_060_record, raw, 12);
-AT(timing_060_ran, refusal, 0);
-AT(timing_060_ran, place, 8);
-AT(timing_060_ran, count, 16);
-AT(timing_060_ran, total, 24);
-AT(timing_060_masks, uses, 0);
-AT(timing_060_masks, defs, 2);
-AT(timing_060_bytes, count, 8);
-AT(timing_060_bytes_mut, count, 8);
-AT(timing_060_words, count, 8);
-AT(timing_060_words_mut, count, 8);
-
-static void print_decimal(uint64_t x) {
-    char s[20];
-    int i = 20;
-    do s[--i] = (char)('0' + x % 10);
-    while (x /= 10);
-    put(s + i, 20ul - (unsigned)i);
-}
 
 static void print_opcode(uint16_t op) {
     char s[4];
@@ -46,14 +19,25 @@ static void print_opcode(uint16_t op) {
 }
 
 static int same_state(const timing_060 *a, const timing_060 *b) {
-    for (int i = 0; i < 256; i++)
+    for (int i = 0; i < TIMING_060_SLOTS; i++)
         if (a->tags[i] != b->tags[i] || a->state[i] != b->state[i]) return 0;
-    for (int i = 0; i < 5; i++)
+    for (int i = 0; i < TIMING_060_WINDOW; i++)
         if (a->window[i] != b->window[i]) return 0;
     return 1;
 }
 
-enum { INSTRUCTIONS = 4, IMAGE = 1288, KEPT = TIMING_060_CACHED | TIMING_060_ESS | TIMING_060_EBC | TIMING_060_SUPERVISOR, TAKEN = KEPT | TIMING_060_FLOWED };
+enum {
+    INSTRUCTIONS = 4,
+    KEPT = TIMING_060_CACHED | TIMING_060_ESS | TIMING_060_EBC | TIMING_060_SUPERVISOR,
+    TAKEN = KEPT | TIMING_060_FLOWED,
+    /* what can be refused here, by shorter names */
+    OK = TIMING_060_ACCEPTED,
+    OVERSIZED = TIMING_060_REFUSED_OVERSIZED,
+    CUT = TIMING_060_REFUSED_CUT,
+    FLAG = TIMING_060_REFUSED_FLAG,
+    ROOM = TIMING_060_REFUSED_ROOM,
+    IMAGE = TIMING_060_IMAGE_BYTES
+};
 
 /* The worked trace: as an emulator has it, and as the bytes of a trace. */
 static const timing_060_record WORKED[INSTRUCTIONS] = {
@@ -62,7 +46,7 @@ static const timing_060_record WORKED[INSTRUCTIONS] = {
     {0x60FE, TAKEN, 0x1004, 0x1004, 10},
     {0x60FE, TAKEN, 0x1004, 0x1004, 10},
 };
-static const uint8_t WORKED_BYTES[20 * INSTRUCTIONS] = {
+static const uint8_t WORKED_BYTES[TIMING_060_RECORD_BYTES * INSTRUCTIONS] = {
     0x10, 0, 1, 0, 0x00, 0x70, 0x1E, 0, 0x00, 0x10, 0, 0, 0x02, 0x10, 0, 0, 4, 0, 0, 0,
     0x10, 0, 1, 0, 0x00, 0x72, 0x1E, 0, 0x02, 0x10, 0, 0, 0x04, 0x10, 0, 0, 4, 0, 0, 0,
     0x10, 0, 1, 0, 0xFE, 0x60, 0x1F, 0, 0x04, 0x10, 0, 0, 0x04, 0x10, 0, 0, 10, 0, 0, 0,
@@ -95,16 +79,21 @@ static void step_by_step(timing_060 *t) {
 
 /* A refused trace or batch writes no number, not even those of a window that is read as another's. */
 static void refused_writes_nothing(uint8_t *bytes, uint32_t *places) {
-    static const uint16_t WINDOWS[2][5] = {{2, 0, 5, 0, 9}, {0, 1, 3, 0, 0xFFFF}};
+    static const uint16_t WINDOWS[2][TIMING_060_WINDOW] = {{2, 0, 5, 0, 9}, {0, 1, 3, 0, 0xFFFF}};
     static timing_060 t, given;
+    timing_060_ran ran;
     for (int w = 0; w < 2; w++) {
-        for (int i = 0; i < 5; i++) t.window[i] = given.window[i] = WINDOWS[w][i];
-        expect(is(timing_060_run_trace(&t, WORKED_BYTES, 79, bytes, 16), 5, 60, 0, 0), "the refusal of a trace on any window");
+        for (int i = 0; i < TIMING_060_WINDOW; i++) t.window[i] = given.window[i] = WINDOWS[w][i];
+        ran = timing_060_run_trace(&t, WORKED_BYTES, 79, bytes, 16);
+        expect(is(ran, CUT, 60, 0, 0), "the refusal of a trace on any window");
         expect(same_state(&t, &given), "the numbers after a refused trace");
-        expect(is(timing_060_run_batch(&t, WORKED, INSTRUCTIONS, places, 0), 7, 0, 0, 0), "the refusal of a batch on any window");
+        ran = timing_060_run_batch(&t, WORKED, INSTRUCTIONS, places, 0);
+        expect(is(ran, ROOM, 0, 0, 0), "the refusal of a batch on any window");
         expect(same_state(&t, &given), "the numbers after a refused batch");
-        expect(is(timing_060_run_batch(&t, WORKED, (uint64_t)1 << 62, places, 0), 1, 0, 0, 0), "the refusal of 2^62 records");
-        expect(is(timing_060_run_batch(&t, WORKED, ~(uint64_t)0, places, 0), 1, 0, 0, 0), "the refusal of 2^64 - 1 records");
+        ran = timing_060_run_batch(&t, WORKED, (uint64_t)1 << 62, places, 0);
+        expect(is(ran, OVERSIZED, 0, 0, 0), "the refusal of 2^62 records");
+        ran = timing_060_run_batch(&t, WORKED, UINT64_MAX, places, 0);
+        expect(is(ran, OVERSIZED, 0, 0, 0), "the refusal of 2^64 - 1 records");
         expect(same_state(&t, &given), "the numbers after an oversized batch");
     }
 }
@@ -112,50 +101,86 @@ static void refused_writes_nothing(uint8_t *bytes, uint32_t *places) {
 /* A trace and a batch cost the same, and leave the same state; the place beyond the last cost stays. */
 static void runs(const timing_060 *stepped) {
     static timing_060 t;
-    static uint8_t bytes[4 * INSTRUCTIONS + 1];
+    static uint8_t bytes[TIMING_060_COST_BYTES * INSTRUCTIONS + 1];
     static uint32_t places[INSTRUCTIONS + 1];
+    timing_060_ran ran;
     timing_060_fresh(&t);
-    bytes[4 * INSTRUCTIONS] = 99;
-    expect(is(timing_060_run_trace(&t, WORKED_BYTES, sizeof WORKED_BYTES, bytes, sizeof bytes), 0, 0, 4, 9), "what the trace gives");
+    bytes[sizeof bytes - 1] = 99;
+    ran = timing_060_run_trace(&t, WORKED_BYTES, sizeof WORKED_BYTES, bytes, sizeof bytes);
+    expect(is(ran, OK, 0, 4, 9), "what the trace gives");
     expect(same_state(&t, stepped), "the state after the trace");
     for (int i = 0; i < 4 * INSTRUCTIONS; i++) expect(bytes[i] == (i % 4 ? 0 : CLOCKS[i / 4]), "a cost of the trace");
-    expect(bytes[4 * INSTRUCTIONS] == 99, "the byte beyond the trace's costs");
-    expect(is(timing_060_run_trace(&t, WORKED_BYTES, 79, bytes, sizeof bytes), 5, 60, 0, 0), "the refusal of a cut trace");
+    expect(bytes[sizeof bytes - 1] == 99, "the byte beyond the trace's costs");
+    ran = timing_060_run_trace(&t, WORKED_BYTES, 79, bytes, sizeof bytes);
+    expect(is(ran, CUT, 60, 0, 0), "the refusal of a cut trace");
     expect(same_state(&t, stepped), "the state after a refused trace");
     refused_writes_nothing(bytes, places);
 
     timing_060_fresh(&t);
     places[INSTRUCTIONS] = 99;
-    expect(is(timing_060_run_batch(&t, WORKED, INSTRUCTIONS, places, INSTRUCTIONS + 1), 0, 0, 4, 9), "what the batch gives");
+    ran = timing_060_run_batch(&t, WORKED, INSTRUCTIONS, places, INSTRUCTIONS + 1);
+    expect(is(ran, OK, 0, 4, 9), "what the batch gives");
     expect(same_state(&t, stepped), "the state after the batch");
     for (int i = 0; i < INSTRUCTIONS; i++) expect(places[i] == CLOCKS[i], "a cost of the batch");
     expect(places[INSTRUCTIONS] == 99, "the place beyond the batch's costs");
-    expect(is(timing_060_run_batch(&t, WORKED, INSTRUCTIONS, places, INSTRUCTIONS - 1), 7, 0, 0, 0), "the refusal of a batch with too few places");
+    ran = timing_060_run_batch(&t, WORKED, INSTRUCTIONS, places, INSTRUCTIONS - 1);
+    expect(is(ran, ROOM, 0, 0, 0), "the refusal of a batch with too few places");
 }
 
 /* The state saved and read back; a refused image gives a fresh state. */
 static void images(const timing_060 *kept) {
     static timing_060 t, fresh;
     static uint8_t image[IMAGE];
-    expect(is(timing_060_image_write(kept, image, IMAGE - 1), 7, 0, 0, 0), "the refusal of an image with too little room");
-    expect(is(timing_060_image_write(kept, image, IMAGE), 0, 0, IMAGE, 0), "what image writing gives");
-    expect(is(timing_060_image_read(&t, image, IMAGE), 0, 0, 0, 0), "what image reading gives");
+    timing_060_ran ran = timing_060_image_write(kept, image, IMAGE - 1);
+    expect(is(ran, ROOM, 0, 0, 0), "the refusal of an image with too little room");
+    ran = timing_060_image_write(kept, image, IMAGE);
+    expect(is(ran, OK, 0, IMAGE, 0), "what image writing gives");
+    ran = timing_060_image_read(&t, image, IMAGE);
+    expect(is(ran, OK, 0, 0, 0), "what image reading gives");
     expect(same_state(&t, kept), "the state read back");
-    expect(is(timing_060_image_read(&t, image, IMAGE - 1), 8, 0, 0, 0), "the refusal of a short image");
+    ran = timing_060_image_read(&t, image, IMAGE - 1);
+    expect(is(ran, TIMING_060_REFUSED_IMAGE_LENGTH, 0, 0, 0), "the refusal of a short image");
     expect(same_state(&t, &fresh), "the state of a refused image");
+    image[0] ^= 1;
+    ran = timing_060_image_read(&t, image, IMAGE);
+    expect(is(ran, TIMING_060_REFUSED_IMAGE_HEADER, 0, 0, 0), "the refusal of another header");
+    image[0] ^= 1;
+    image[1287] = 8;
+    ran = timing_060_image_read(&t, image, IMAGE);
+    expect(is(ran, TIMING_060_REFUSED_IMAGE_WINDOW, 1284, 0, 0), "the refusal of a window that is none");
+}
+
+/* The window's five numbers. */
+static int window_is(const timing_060 *t, int open, int defs, int ccr, int memory, int cached) {
+    return t->window[TIMING_060_WINDOW_OPEN] == open && t->window[TIMING_060_WINDOW_DEFS] == defs &&
+           t->window[TIMING_060_WINDOW_CCR] == ccr && t->window[TIMING_060_WINDOW_MEMORY] == memory &&
+           t->window[TIMING_060_WINDOW_CACHED] == cached;
 }
 
 /* The window: any number but 0 is yes, and of a shut one the others are left as zeros. */
 static void windows(void) {
     static timing_060 t;
-    static const uint16_t HEAD[5] = {2, 1, 3, 0, 0xFFFF}, SHUT[5] = {0, 1, 3, 0, 0xFFFF};
-    for (int i = 0; i < 5; i++) t.window[i] = HEAD[i];
+    static const uint16_t HEAD[TIMING_060_WINDOW] = {2, 1, 3, 0, 0xFFFF};
+    static const uint16_t SHUT[TIMING_060_WINDOW] = {0, 1, 3, 0, 0xFFFF};
+    for (int i = 0; i < TIMING_060_WINDOW; i++) t.window[i] = HEAD[i];
     timing_060_clear_all(&t);
-    expect(t.window[0] == 1 && t.window[1] == 1 && t.window[2] == 1 && t.window[3] == 0 && t.window[4] == 1, "an open window");
+    expect(window_is(&t, 1, 1, 1, 0, 1), "an open window");
     expect(timing_060_retire(&t, 0x7200, KEPT, 0, 2, 4) == 0, "the clocks behind an open window");
-    for (int i = 0; i < 5; i++) t.window[i] = SHUT[i];
+    for (int i = 0; i < TIMING_060_WINDOW; i++) t.window[i] = SHUT[i];
     timing_060_clear_user(&t);
-    for (int i = 0; i < 5; i++) expect(t.window[i] == 0, "a shut window");
+    expect(window_is(&t, 0, 0, 0, 0, 0), "a shut window");
+}
+
+/* An RTS that flowed, with a raw count below 0, and flag bits above bit 4: not looked at, but in a trace refused. */
+static void flags(timing_060 *t) {
+    static const timing_060_record RTS = {0x4E75, 0xFFE0 | TAKEN, 0x3000, 0x4000, -1};
+    static const uint8_t RTS_BYTES[TIMING_060_RECORD_BYTES] = {0x10, 0, 1, 0, 0x75, 0x4E, 0x3F};
+    uint32_t clocks = 0;
+    uint8_t bytes[TIMING_060_COST_BYTES];
+    expect(timing_060_retire(t, RTS.op, RTS.flags, RTS.ppc, RTS.pc, RTS.raw) == 5, "the clocks of RTS");
+    expect(is(timing_060_run_batch(t, &RTS, 1, &clocks, 1), OK, 0, 1, 5) && clocks == 5, "the batch of RTS");
+    timing_060_ran ran = timing_060_run_trace(t, RTS_BYTES, sizeof RTS_BYTES, bytes, sizeof bytes);
+    expect(is(ran, FLAG, 0, 0, 0), "the refusal of a flag");
 }
 
 static int host(void) {
@@ -166,10 +191,10 @@ static int host(void) {
 
     t.state[7] = 12;
     timing_060_retire(&t, 0x7000, KEPT, 0x2000, 0x2002, 4);
-    expect(t.window[0] == 1 && t.window[1] == 1 && t.window[2] == 1 && t.window[3] == 0 && t.window[4] == 1, "the window behind MOVEQ #0,D0");
+    expect(window_is(&t, 1, 1, 1, 0, 1), "the window behind MOVEQ #0,D0");
     images(&t);
     timing_060_break(&t);
-    for (int i = 0; i < 5; i++) expect(t.window[i] == 0, "the window after a break");
+    expect(window_is(&t, 0, 0, 0, 0, 0), "the window after a break");
     expect(t.tags[2] == 0x1004 && t.state[2] == 7 && t.state[7] == 12, "the cache after a break");
     images(&t);
     timing_060_clear_user(&t);
@@ -177,14 +202,10 @@ static int host(void) {
     timing_060_clear_all(&t);
     expect(t.state[2] == 0 && t.tags[2] == 0x1004, "the slots after a clear of all");
     windows();
-
-    /* An RTS that flowed: raw is signed, and flag bits above bit 4 are not looked at. */
-    static const timing_060_record RTS = {0x4E75, 0xFFE0 | TAKEN, 0x3000, 0x4000, -1};
-    uint32_t clocks = 0;
-    expect(timing_060_retire(&t, RTS.op, RTS.flags, RTS.ppc, RTS.pc, RTS.raw) == 5, "the clocks of RTS");
-    expect(is(timing_060_run_batch(&t, &RTS, 1, &clocks, 1), 0, 0, 1, 5) && clocks == 5, "the batch of RTS");
+    flags(&t);
 
     timing_060_masks m = timing_060_masks_of(0x49D0);
-    expect(timing_060_class_word(0x49D0) == 0xC404 && m.uses == 0x0100 && m.defs == 0x1000, "class word and masks of 49D0");
+    expect(timing_060_class_word(0x49D0) == 0xC404, "the class word of 49D0");
+    expect(m.uses == 0x0100 && m.defs == 0x1000, "the masks of 49D0");
     return failures != 0;
 }

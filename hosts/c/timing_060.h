@@ -1,20 +1,49 @@
-/* The clocks of retired 68060 instructions: the proved library libhost.a, as `rt staticlib host` writes it, for x86-64.
- * docs/HOST.md says how an emulator calls it, and what it must see to. Nothing here checks a pointer. */
+/* The clocks of retired 68060 instructions: the proved library libtiming_060.a, for x86-64 Linux, from C99 or C++11 on.
+ * docs/HOST.md says how an emulator calls it, what the library needs and what the caller must see to. Nothing here
+ * checks a pointer; one with a count of 0 is never followed and may be NULL. */
 #ifndef TIMING_060_H
 #define TIMING_060_H
 
+#include <stddef.h>
 #include <stdint.h>
 
-/* The state that a host keeps. All zeros is a fresh state. The window's five numbers are: open, the registers that the head writes,
- * and whether it defines the CCR, accesses memory, was cached. Anything but 0 is yes; of a shut window the other four are read,
- * and by whatever is accepted left, as zeros. */
-typedef struct {
-    uint32_t tags[256];
-    uint8_t state[256];
-    uint16_t window[5];
+#define TIMING_060_VERSION "0.2.0"
+#define TIMING_060_VERSION_MAJOR 0
+#define TIMING_060_VERSION_MINOR 2
+#define TIMING_060_VERSION_PATCH 0
+
+/* The limits. */
+#define TIMING_060_TRACE_BYTES 16777216  /* the most bytes of a trace */
+#define TIMING_060_BATCH_RECORDS 1048576 /* the most records of a batch */
+#define TIMING_060_RECORD_BYTES 20       /* a retirement in a trace, with its header of 4 bytes */
+#define TIMING_060_COST_BYTES 4          /* the room that a retirement of a trace needs for its clocks */
+#define TIMING_060_IMAGE_BYTES 1288      /* a state as an image */
+#define TIMING_060_SLOTS 256             /* the slots of the branch cache */
+#define TIMING_060_WINDOW 5              /* the numbers of the window */
+
+#ifdef __cplusplus
+extern "C" {
+#endif
+
+/* The state that a host keeps. All zeros is a fresh state. In the window anything but 0 is yes; of a shut window the
+ * other four numbers are read, and by whatever is accepted left, as zeros. */
+typedef struct timing_060 {
+    uint32_t tags[TIMING_060_SLOTS];
+    uint8_t state[TIMING_060_SLOTS];
+    uint16_t window[TIMING_060_WINDOW];
 } timing_060;
 
-/* The flags of a retirement; bits above these are not looked at. */
+/* The five numbers of the window. */
+enum {
+    TIMING_060_WINDOW_OPEN = 0,   /* a head waits for a second instruction */
+    TIMING_060_WINDOW_DEFS = 1,   /* the registers that the head writes: a mask, not yes or no */
+    TIMING_060_WINDOW_CCR = 2,    /* it defines the CCR */
+    TIMING_060_WINDOW_MEMORY = 3, /* it accesses memory */
+    TIMING_060_WINDOW_CACHED = 4  /* its opcode came from the instruction cache */
+};
+
+/* The flags of a retirement. Bits above these five are not looked at by timing_060_retire and timing_060_run_batch;
+ * timing_060_run_trace refuses them. */
 enum {
     TIMING_060_FLOWED = 1,     /* the instruction changed the flow */
     TIMING_060_CACHED = 2,     /* its opcode came from the instruction cache */
@@ -23,8 +52,8 @@ enum {
     TIMING_060_SUPERVISOR = 16 /* supervisor mode */
 };
 
-/* A retired instruction, in a batch: 16 bytes, as in a trace. */
-typedef struct {
+/* A retired instruction, in a batch: 16 bytes, as in a trace behind the record's header. */
+typedef struct timing_060_record {
     uint16_t op;
     uint16_t flags;
     uint32_t ppc;
@@ -32,43 +61,137 @@ typedef struct {
     int32_t raw;
 } timing_060_record;
 
-/* What a run gives. A refusal is 0 where there is none, else its number in the table of refusals, with its place; then count and
- * total are 0, and nothing at all is written: costs, state and window keep every number. */
-typedef struct {
+/* What a refusal can be, and its place. */
+enum {
+    TIMING_060_ACCEPTED = 0,             /* nothing is refused; place 0 */
+    TIMING_060_REFUSED_OVERSIZED = 1,    /* the trace or the batch is over its limit; place 0 */
+    TIMING_060_REFUSED_REMAINDER = 2,    /* 1 to 3 bytes remain; place: the record's start, as of 3 to 6 */
+    TIMING_060_REFUSED_WRONG_KIND = 3,   /* the record's kind is not 1 to 4 */
+    TIMING_060_REFUSED_WRONG_LENGTH = 4, /* the record's length is not its kind's */
+    TIMING_060_REFUSED_CUT = 5,          /* the record's payload is cut */
+    TIMING_060_REFUSED_FLAG = 6,         /* a flag above bit 4 is set */
+    TIMING_060_REFUSED_ROOM = 7,         /* too little room was lent; place: a trace's length, else 0 */
+    TIMING_060_REFUSED_IMAGE_LENGTH = 8, /* the image is not 1,288 bytes long; place 0 */
+    TIMING_060_REFUSED_IMAGE_HEADER = 9, /* its header is wrong; place 0 */
+    TIMING_060_REFUSED_IMAGE_WINDOW = 10 /* its window is none that a state can have; place 1,284 */
+};
+
+/* What a run gives. A refusal is TIMING_060_ACCEPTED where there is none, else what it is, with its place; then count
+ * and total are 0, and nothing at all is written: costs, image, state and window keep every number. Only a refused
+ * image that is read writes: a fresh state. */
+typedef struct timing_060_ran {
     uint64_t refusal;
     uint64_t place;
     uint64_t count;
     uint64_t total;
 } timing_060_ran;
 
-typedef struct {
+/* The registers that an opcode uses and defines: D0 to D7 in bits 0 to 7, A0 to A7 in bits 8 to 15. */
+typedef struct timing_060_masks {
     uint16_t uses;
     uint16_t defs;
 } timing_060_masks;
 
-/* Lent memory: where it starts, and how many there are. */
-typedef struct { const uint8_t *at; uint64_t count; } timing_060_bytes;
-typedef struct { uint8_t *at; uint64_t count; } timing_060_bytes_mut;
-typedef struct { const uint32_t *at; uint64_t count; } timing_060_words;
-typedef struct { uint32_t *at; uint64_t count; } timing_060_words_mut;
+/* Lent memory: where it starts, and how many bytes or 32-bit words there are. */
+typedef struct timing_060_bytes {
+    const uint8_t *at;
+    uint64_t count;
+} timing_060_bytes;
+typedef struct timing_060_bytes_mut {
+    uint8_t *at;
+    uint64_t count;
+} timing_060_bytes_mut;
+typedef struct timing_060_words {
+    const void *at; /* aligned for uint32_t */
+    uint64_t count;
+} timing_060_words;
+typedef struct timing_060_words_mut {
+    uint32_t *at;
+    uint64_t count;
+} timing_060_words_mut;
 
-extern void timing_060_fresh_at(uint32_t *tags, uint8_t *state, uint16_t *window);
-extern uint32_t timing_060_retire_at(uint32_t *tags, uint8_t *state, uint16_t *window, uint16_t op, uint16_t flags, uint32_t ppc, uint32_t pc, int32_t raw);
-extern void timing_060_break_at(uint16_t *window);
-extern void timing_060_clear_all_at(uint8_t *state, uint16_t *window);
-extern void timing_060_clear_user_at(uint8_t *state, uint16_t *window);
-extern uint16_t timing_060_class_word(uint16_t op);
-extern timing_060_masks timing_060_masks_of(uint16_t op);
-extern timing_060_ran timing_060_run_trace_at(timing_060_bytes trace, timing_060_bytes_mut costs, uint32_t *tags, uint8_t *state, uint16_t *window);
-extern timing_060_ran timing_060_run_batch_at(timing_060_words records, timing_060_words_mut costs, uint32_t *tags, uint8_t *state, uint16_t *window);
-extern timing_060_ran timing_060_image_write_at(const uint32_t *tags, const uint8_t *state, const uint16_t *window, timing_060_bytes_mut image);
-extern timing_060_ran timing_060_image_read_at(timing_060_bytes image, uint32_t *tags, uint8_t *state, uint16_t *window);
+/* The structs as the library has them. */
+#if defined(__cplusplus) && __cplusplus >= 201103L || defined(__STDC_VERSION__) && __STDC_VERSION__ >= 202311L
+#define TIMING_060_HOLDS(name, test) static_assert(test, #name)
+#elif defined(__STDC_VERSION__) && __STDC_VERSION__ >= 201112L
+#define TIMING_060_HOLDS(name, test) _Static_assert(test, #name)
+#else
+#define TIMING_060_HOLDS(name, test) typedef char timing_060_holds_##name[(test) ? 1 : -1]
+#endif
+#define TIMING_060_SIZE(type, bytes) TIMING_060_HOLDS(size_of_##type, sizeof(type) == (bytes))
+#define TIMING_060_AT(type, field, place) TIMING_060_HOLDS(place_of_##type##_##field, offsetof(type, field) == (place))
+TIMING_060_SIZE(timing_060, 1292);
+TIMING_060_AT(timing_060, tags, 0);
+TIMING_060_AT(timing_060, state, 1024);
+TIMING_060_AT(timing_060, window, 1280);
+TIMING_060_SIZE(timing_060_record, 16);
+TIMING_060_AT(timing_060_record, op, 0);
+TIMING_060_AT(timing_060_record, flags, 2);
+TIMING_060_AT(timing_060_record, ppc, 4);
+TIMING_060_AT(timing_060_record, pc, 8);
+TIMING_060_AT(timing_060_record, raw, 12);
+TIMING_060_SIZE(timing_060_ran, 32);
+TIMING_060_AT(timing_060_ran, refusal, 0);
+TIMING_060_AT(timing_060_ran, place, 8);
+TIMING_060_AT(timing_060_ran, count, 16);
+TIMING_060_AT(timing_060_ran, total, 24);
+TIMING_060_SIZE(timing_060_masks, 4);
+TIMING_060_AT(timing_060_masks, uses, 0);
+TIMING_060_AT(timing_060_masks, defs, 2);
+TIMING_060_SIZE(timing_060_bytes, 16);
+TIMING_060_AT(timing_060_bytes, at, 0);
+TIMING_060_AT(timing_060_bytes, count, 8);
+TIMING_060_SIZE(timing_060_bytes_mut, 16);
+TIMING_060_AT(timing_060_bytes_mut, at, 0);
+TIMING_060_AT(timing_060_bytes_mut, count, 8);
+TIMING_060_SIZE(timing_060_words, 16);
+TIMING_060_AT(timing_060_words, at, 0);
+TIMING_060_AT(timing_060_words, count, 8);
+TIMING_060_SIZE(timing_060_words_mut, 16);
+TIMING_060_AT(timing_060_words_mut, at, 0);
+TIMING_060_AT(timing_060_words_mut, count, 8);
+#undef TIMING_060_AT
+#undef TIMING_060_SIZE
+#undef TIMING_060_HOLDS
+
+/* The library's functions, over numbers that the host lends. Those below take a state whole. */
+
+void timing_060_fresh_at(uint32_t *tags, uint8_t *state, uint16_t *window);
+
+/* Flag bits above the five are not looked at. */
+uint32_t timing_060_retire_at(uint32_t *tags, uint8_t *state, uint16_t *window, uint16_t op, uint16_t flags,
+                              uint32_t ppc, uint32_t pc, int32_t raw);
+
+void timing_060_break_at(uint16_t *window);
+void timing_060_clear_all_at(uint8_t *state, uint16_t *window);
+void timing_060_clear_user_at(uint8_t *state, uint16_t *window);
+
+/* A flag bit above the five is TIMING_060_REFUSED_FLAG. */
+timing_060_ran timing_060_run_trace_at(timing_060_bytes trace, timing_060_bytes_mut costs, uint32_t *tags,
+                                       uint8_t *state, uint16_t *window);
+
+/* Four words a record; words beyond the last whole record are not read. Flag bits above the five are not looked at. */
+timing_060_ran timing_060_run_batch_at(timing_060_words records, timing_060_words_mut costs, uint32_t *tags,
+                                       uint8_t *state, uint16_t *window);
+
+timing_060_ran timing_060_image_write_at(const uint32_t *tags, const uint8_t *state, const uint16_t *window,
+                                         timing_060_bytes_mut image);
+timing_060_ran timing_060_image_read_at(timing_060_bytes image, uint32_t *tags, uint8_t *state, uint16_t *window);
+
+/* The class word of an opcode: class in bits 0 and 1, clocks in bits 2 to 6, then its flags, not those of a
+ * retirement. */
+uint16_t timing_060_class_word(uint16_t op);
+
+/* The registers that an opcode uses and defines. */
+timing_060_masks timing_060_masks_of(uint16_t op);
 
 /* A fresh state. */
 static inline void timing_060_fresh(timing_060 *t) { timing_060_fresh_at(t->tags, t->state, t->window); }
 
-/* One retired instruction: its clocks. `raw` is the handler's 68000 count. */
-static inline uint32_t timing_060_retire(timing_060 *t, uint16_t op, uint16_t flags, uint32_t ppc, uint32_t pc, int32_t raw) {
+/* One retired instruction: its clocks. `raw` is the handler's 68000 count. Flag bits above the five are not looked
+ * at. */
+static inline uint32_t timing_060_retire(timing_060 *t, uint16_t op, uint16_t flags, uint32_t ppc, uint32_t pc,
+                                         int32_t raw) {
     return timing_060_retire_at(t->tags, t->state, t->window, op, flags, ppc, pc, raw);
 }
 
@@ -79,16 +202,20 @@ static inline void timing_060_break(timing_060 *t) { timing_060_break_at(t->wind
 static inline void timing_060_clear_all(timing_060 *t) { timing_060_clear_all_at(t->state, t->window); }
 static inline void timing_060_clear_user(timing_060 *t) { timing_060_clear_user_at(t->state, t->window); }
 
-/* A trace into 4 bytes a retirement, little-endian. */
-static inline timing_060_ran timing_060_run_trace(timing_060 *t, const uint8_t *trace, uint64_t bytes, uint8_t *costs, uint64_t room) {
+/* A trace into 4 bytes a retirement, little-endian. A flag bit above the five refuses the trace:
+ * TIMING_060_REFUSED_FLAG, at the record's start. */
+static inline timing_060_ran timing_060_run_trace(timing_060 *t, const uint8_t *trace, uint64_t bytes, uint8_t *costs,
+                                                  uint64_t room) {
     timing_060_bytes s = {trace, bytes};
     timing_060_bytes_mut c = {costs, room};
     return timing_060_run_trace_at(s, c, t->tags, t->state, t->window);
 }
 
-/* A batch of records into a place each. A count whose words do not fit 64 bits is far over the limit, and refused as such. */
-static inline timing_060_ran timing_060_run_batch(timing_060 *t, const timing_060_record *records, uint64_t count, uint32_t *costs, uint64_t places) {
-    timing_060_words s = {(const uint32_t *)records, count >> 62 ? ~(uint64_t)0 : count * 4};
+/* A batch of records into a place each. Flag bits above the five are not looked at. A count whose words do not fit 64
+ * bits is far over the limit, and refused as such. */
+static inline timing_060_ran timing_060_run_batch(timing_060 *t, const timing_060_record *records, uint64_t count,
+                                                  uint32_t *costs, uint64_t places) {
+    timing_060_words s = {records, count > UINT64_MAX / 4 ? UINT64_MAX : count * 4};
     timing_060_words_mut c = {costs, places};
     return timing_060_run_batch_at(s, c, t->tags, t->state, t->window);
 }
@@ -104,5 +231,9 @@ static inline timing_060_ran timing_060_image_read(timing_060 *t, const uint8_t 
     timing_060_bytes s = {image, bytes};
     return timing_060_image_read_at(s, t->tags, t->state, t->window);
 }
+
+#ifdef __cplusplus
+}
+#endif
 
 #endif

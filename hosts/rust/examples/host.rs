@@ -1,8 +1,8 @@
-//! A host that retires the four instructions of document 01's worked trace, saves its state and goes on from it, and prints what the cost
-//! lister prints.
-use timing_060::{Flags, Retirement, Timing060};
+//! A host that retires the four instructions of document 01's worked trace, saves its state and goes on from it, and
+//! prints what the cost lister prints.
+use timing_060::{Flags, Refused, Retirement, Timing060};
 
-fn main() {
+fn main() -> Result<(), Refused> {
     let cached = Flags { flowed: false, cached: true, ess: true, ebc: true, supervisor: true };
     let flowed = Flags { flowed: true, ..cached };
     let program = [
@@ -16,13 +16,14 @@ fn main() {
     println!("index opcode clocks");
     for (i, r) in program.into_iter().enumerate() {
         let clocks = timing.retire(r);
-        total += clocks as u64;
+        total += u64::from(clocks);
         println!("{i} {:04X} {clocks}", r.op);
         if i == 1 {
             // A break, and the state through an image: neither changes what follows, since the window is shut here.
             timing.break_pipeline();
-            timing = Timing060::from_image(&timing.image()).expect("an image of ours is accepted");
+            timing = Timing060::from_image(&timing.image())?;
         }
     }
     println!("total {} {total}", program.len());
+    Ok(())
 }

@@ -1,11 +1,13 @@
 //! The clocks of retired 68060 instructions.
 //!
-//! [`Timing060`] is the timing state that an emulator keeps beside its CPU: a branch cache of 256 slots and the pairing window. Each
-//! retired instruction goes through [`Timing060::retire`], which answers its clocks. The work is done by a library whose every function is
-//! proved to meet its contract; this crate adds the calls and nothing else. It cannot be misused: every state, instruction, trace and
-//! image has an answer or a numbered refusal.
+//! [`Timing060`] is the timing state that an emulator keeps beside its CPU: a branch cache of 256 slots and the pairing
+//! window. Each retired instruction goes through [`Timing060::retire`], which answers its clocks. The work is done by a
+//! library whose every function is proved to meet its contract, libtiming_060.a; this crate adds the calls and nothing
+//! else. It cannot be misused: every state, instruction, trace and image has an answer or a [`Refusal`].
 //!
-//! ```no_run
+//! The library is for x86-64 Linux. On other targets this crate is checked and documented, but nothing can be linked.
+//!
+//! ```
 //! use timing_060::{Flags, Retirement, Timing060};
 //!
 //! let mut timing = Timing060::new();
@@ -13,11 +15,23 @@
 //! let clocks = timing.retire(Retirement { op: 0x7000, flags, ppc: 0x1000, pc: 0x1002, raw: 4 });
 //! assert_eq!(clocks, 1);
 //! ```
+#![warn(missing_docs)]
 
+mod refusals;
 mod sys;
 
-/// The bytes of a state image.
-pub const IMAGE: usize = 1288;
+pub use refusals::{Refusal, Refused};
+
+/// The most bytes of a trace.
+pub const TRACE_BYTES: usize = 16_777_216;
+/// The most records of a batch.
+pub const BATCH_RECORDS: usize = 1_048_576;
+/// A retirement in a trace, with its header of 4 bytes.
+pub const RECORD_BYTES: usize = 20;
+/// The room that a retirement of a trace needs for its clocks.
+pub const COST_BYTES: usize = 4;
+/// A state as an image.
+pub const IMAGE_BYTES: usize = 1288;
 
 /// What the host knows of a retirement, as yes or no.
 #[derive(Clone, Copy, Debug, Default, PartialEq, Eq)]
@@ -36,7 +50,8 @@ pub struct Flags {
 
 impl Flags {
     fn bits(self) -> u16 {
-        self.flowed as u16 | (self.cached as u16) << 1 | (self.ess as u16) << 2 | (self.ebc as u16) << 3 | (self.supervisor as u16) << 4
+        let (flowed, cached, ess) = (self.flowed as u16, self.cached as u16, self.ess as u16);
+        flowed | cached << 1 | ess << 2 | (self.ebc as u16) << 3 | (self.supervisor as u16) << 4
     }
 }
 
@@ -45,6 +60,7 @@ impl Flags {
 pub struct Retirement {
     /// The opcode word.
     pub op: u16,
+    /// What the host knows of it.
     pub flags: Flags,
     /// Where the instruction stood.
     pub ppc: u32,
@@ -65,6 +81,14 @@ pub struct Record {
     raw: i32,
 }
 
+// A batch is lent as words, four a record.
+const _: () = {
+    use std::mem::{align_of, offset_of, size_of};
+    assert!(size_of::<Record>() == 16 && align_of::<Record>() == align_of::<u32>());
+    assert!(offset_of!(Record, op) == 0 && offset_of!(Record, flags) == 2 && offset_of!(Record, ppc) == 4);
+    assert!(offset_of!(Record, pc) == 8 && offset_of!(Record, raw) == 12);
+};
+
 impl From<Retirement> for Record {
     fn from(r: Retirement) -> Self {
         Record { op: r.op, flags: r.flags.bits(), ppc: r.ppc, pc: r.pc, raw: r.raw }
@@ -80,27 +104,21 @@ pub struct Ran {
     pub total: u64,
 }
 
-/// A refusal: its number in the table of refusals, and its place. Nothing was written, and the state is as it was.
-#[derive(Clone, Copy, Debug, PartialEq, Eq)]
-pub struct Refused {
-    pub number: u64,
-    pub place: u64,
-}
-
 /// The registers that an instruction uses and defines: D0 to D7 in bits 0 to 7, A0 to A7 in bits 8 to 15.
 #[derive(Clone, Copy, Debug, PartialEq, Eq)]
 pub struct Masks {
+    /// Those that it uses.
     pub uses: u16,
+    /// Those that it defines.
     pub defs: u16,
 }
 
 /// The timing state of a 68060.
-#[repr(C)]
 #[derive(Clone, Debug, PartialEq, Eq)]
 pub struct Timing060 {
-    tags: [u32; 256],
-    state: [u8; 256],
-    window: [u16; 5],
+    tags: sys::Tags,
+    state: sys::Slots,
+    window: sys::Window,
 }
 
 impl Default for Timing060 {
@@ -109,6 +127,7 @@ impl Default for Timing060 {
     }
 }
 
+// Every call lends references and slices, which are what they say: the library asks nothing else.
 impl Timing060 {
     /// A fresh state.
     pub fn new() -> Self {
@@ -120,7 +139,8 @@ impl Timing060 {
     /// One retired instruction: its clocks.
     #[inline]
     pub fn retire(&mut self, r: Retirement) -> u32 {
-        unsafe { sys::timing_060_retire_at(&mut self.tags, &mut self.state, &mut self.window, r.op, r.flags.bits(), r.ppc, r.pc, r.raw) }
+        let (tags, state, window) = (&mut self.tags, &mut self.state, &mut self.window);
+        unsafe { sys::timing_060_retire_at(tags, state, window, r.op, r.flags.bits(), r.ppc, r.pc, r.raw) }
     }
 
     /// The pipeline breaks: the pairing window is shut, and nothing else changes.
@@ -138,13 +158,14 @@ impl Timing060 {
         unsafe { sys::timing_060_clear_user_at(&mut self.state, &mut self.window) }
     }
 
-    /// Runs a trace: 4 bytes of clocks, little-endian, for each retirement. Bytes beyond the last cost stay.
+    /// Runs a trace of at most [`TRACE_BYTES`]: [`COST_BYTES`] of clocks, little-endian, for each retirement. Bytes
+    /// beyond the last cost stay. A flag bit above the five is refused: [`Refusal::Flag`].
     pub fn run_trace(&mut self, trace: &[u8], costs: &mut [u8]) -> Result<Ran, Refused> {
         let (s, c) = (sys::Shared::of(trace), sys::Lent::of(costs));
         answer(unsafe { sys::timing_060_run_trace_at(s, c, &mut self.tags, &mut self.state, &mut self.window) })
     }
 
-    /// Runs a batch: a place for each record. Places beyond the last cost stay.
+    /// Runs a batch of at most [`BATCH_RECORDS`]: a place for each record. Places beyond the last cost stay.
     pub fn run_batch(&mut self, records: &[Record], costs: &mut [u32]) -> Result<Ran, Refused> {
         let s = sys::Shared { at: records.as_ptr().cast(), count: (records.len() as u64).saturating_mul(4) };
         let c = sys::Lent::of(costs);
@@ -152,21 +173,22 @@ impl Timing060 {
     }
 
     /// The state as bytes.
-    pub fn image(&self) -> [u8; IMAGE] {
-        let mut image = [0; IMAGE];
-        unsafe { sys::timing_060_image_write_at(&self.tags, &self.state, &self.window, sys::Lent::of(&mut image)) };
+    pub fn image(&self) -> [u8; IMAGE_BYTES] {
+        let mut image = [0; IMAGE_BYTES];
+        let room = sys::Lent::of(&mut image);
+        unsafe { sys::timing_060_image_write_at(&self.tags, &self.state, &self.window, room) };
         image
     }
 
     /// The state of an image.
     pub fn from_image(image: &[u8]) -> Result<Self, Refused> {
         let mut t = Self::new();
-        let ran = unsafe { sys::timing_060_image_read_at(sys::Shared::of(image), &mut t.tags, &mut t.state, &mut t.window) };
-        answer(ran).map(|_| t)
+        let s = sys::Shared::of(image);
+        answer(unsafe { sys::timing_060_image_read_at(s, &mut t.tags, &mut t.state, &mut t.window) }).map(|_| t)
     }
 }
 
-/// The class word of an opcode.
+/// The class word of an opcode: class in bits 0 and 1, clocks in bits 2 to 6, then its flags.
 pub fn class_word(op: u16) -> u16 {
     unsafe { sys::timing_060_class_word(op) }
 }
@@ -181,6 +203,6 @@ fn answer(ran: sys::HostRan) -> Result<Ran, Refused> {
     if ran.refusal == 0 {
         Ok(Ran { count: ran.count, total: ran.total })
     } else {
-        Err(Refused { number: ran.refusal, place: ran.place })
+        Err(Refused { refusal: Refusal::of(ran.refusal), place: ran.place })
     }
 }

@@ -1,0 +1,77 @@
+// Every function of timing_060.h, called from C++. Prints `calls hold`, or what differs; then its exit status is 1.
+// Compiled as example.c is, as C++11 or later; no C++ library is needed.
+#include <timing_060.h>
+
+#include "system.h"
+
+static_assert(TIMING_060_VERSION_MAJOR == 0 && sizeof TIMING_060_VERSION > 5, "a version");
+
+namespace {
+
+const uint16_t KEPT = TIMING_060_CACHED | TIMING_060_ESS | TIMING_060_EBC | TIMING_060_SUPERVISOR;
+const uint64_t ACCEPTED = TIMING_060_ACCEPTED;
+
+void steps() {
+    timing_060 t;
+    timing_060_fresh(&t);
+    expect(timing_060_retire(&t, 0x7000, KEPT, 0x1000, 0x1002, 4) == 1, "the clocks of MOVEQ into D0");
+    expect(t.window[TIMING_060_WINDOW_OPEN] == 1, "the window behind it");
+    timing_060_break(&t);
+    expect(t.window[TIMING_060_WINDOW_OPEN] == 0, "the window after a break");
+    t.state[0] = 12, t.state[1] = 4;
+    timing_060_clear_user(&t);
+    expect(t.state[0] == 0 && t.state[1] == 4, "the slots after a clear of user entries");
+    timing_060_clear_all(&t);
+    expect(t.state[1] == 0, "the slots after a clear of all");
+    expect(timing_060_class_word(0x7000) == 0x0404, "the class word of MOVEQ");
+    timing_060_masks m = timing_060_masks_of(0x7000);
+    expect(m.uses == 0 && m.defs == 1, "the masks of MOVEQ");
+}
+
+void runs() {
+    static const timing_060_record BATCH[2] = {{0x7000, KEPT, 0x1000, 0x1002, 4}, {0x7200, KEPT, 0x1002, 0x1004, 4}};
+    static const uint8_t TRACE[TIMING_060_RECORD_BYTES] = {16, 0, 1, 0, 0, 0x70, 30, 0, 0, 16, 0, 0, 2, 16, 0, 0, 4};
+    timing_060 t = timing_060(), read = timing_060();
+    uint32_t places[2];
+    uint8_t bytes[TIMING_060_COST_BYTES], image[TIMING_060_IMAGE_BYTES];
+    expect(is(timing_060_run_batch(&t, BATCH, 2, places, 2), ACCEPTED, 0, 2, 1), "a batch");
+    expect(places[0] == 1 && places[1] == 0, "its costs");
+    expect(is(timing_060_run_trace(&t, TRACE, sizeof TRACE, bytes, sizeof bytes), ACCEPTED, 0, 1, 1), "a trace");
+    expect(bytes[0] == 1 && bytes[1] == 0, "its costs");
+    expect(is(timing_060_image_write(&t, image, sizeof image), ACCEPTED, 0, sizeof image, 0), "an image written");
+    expect(is(timing_060_image_read(&read, image, sizeof image), ACCEPTED, 0, 0, 0), "an image read");
+    expect(read.window[TIMING_060_WINDOW_DEFS] == 1, "the window of an image");
+}
+
+// The functions that the others stand on.
+void lent() {
+    timing_060 t;
+    uint32_t place = 9;
+    uint8_t image[TIMING_060_IMAGE_BYTES];
+    timing_060_fresh_at(t.tags, t.state, t.window);
+    expect(timing_060_retire_at(t.tags, t.state, t.window, 0x7000, KEPT, 0x1000, 0x1002, 4) == 1, "a step");
+    timing_060_break_at(t.window);
+    timing_060_clear_user_at(t.state, t.window);
+    timing_060_clear_all_at(t.state, t.window);
+    timing_060_bytes no_bytes = {nullptr, 0};
+    timing_060_bytes_mut no_room = {nullptr, 0}, room = {image, sizeof image};
+    timing_060_words no_words = {nullptr, 0};
+    timing_060_words_mut places = {&place, 1};
+    expect(is(timing_060_run_trace_at(no_bytes, no_room, t.tags, t.state, t.window), ACCEPTED, 0, 0, 0), "no trace");
+    expect(is(timing_060_run_batch_at(no_words, places, t.tags, t.state, t.window), ACCEPTED, 0, 0, 0), "no batch");
+    expect(place == 9, "the place of no batch");
+    timing_060_ran ran = timing_060_image_write_at(t.tags, t.state, t.window, room);
+    expect(is(ran, ACCEPTED, 0, sizeof image, 0), "an image written");
+    ran = timing_060_image_read_at(no_bytes, t.tags, t.state, t.window);
+    expect(is(ran, TIMING_060_REFUSED_IMAGE_LENGTH, 0, 0, 0), "no image");
+}
+
+} // namespace
+
+static int host(void) {
+    steps();
+    runs();
+    lent();
+    if (failures == 0) print("calls hold\n");
+    return failures != 0;
+}
