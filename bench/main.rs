@@ -14,6 +14,7 @@ mod rust;
 mod traces;
 
 use std::hint::black_box;
+use std::io::Write;
 use std::time::Instant;
 use traces::Trace;
 
@@ -46,12 +47,20 @@ fn least(retirements: usize, first: Run, second: Run) -> (f64, f64) {
     (a as f64 / each, b as f64 / each)
 }
 
+/// Writes a line to standard output; a reader that has enough ends the run.
+fn line(text: &str) {
+    if writeln!(std::io::stdout(), "{text}").is_err() {
+        std::process::exit(1);
+    }
+}
+
 fn row(what: &str, trace: &Trace, (rust, port): (f64, f64)) {
-    println!("{what} {} {} {rust:.2} {port:.2} {:.2}", trace.name, trace.records.len(), port / rust);
+    line(&format!("{what} {} {} {rust:.2} {port:.2} {:.2}", trace.name, trace.records.len(), port / rust));
 }
 
 fn measure(trace: &Trace) {
     let n = trace.records.len();
+    eprintln!("bench/run: measures the trace {}, {n} retirements", trace.name);
     let (mut costs, mut others) = (vec![0u32; n], vec![0u32; n]);
     let (mut bytes, mut more) = (vec![0u8; 4 * n], vec![0u8; 4 * n]);
     let single = least(n, &mut || rust::single(&trace.records, &mut costs), &mut || library::single(&trace.records, &mut others));
@@ -63,16 +72,16 @@ fn measure(trace: &Trace) {
     let run = least(n, &mut || rust::trace(&trace.bytes, &mut bytes), &mut || library::trace(&trace.bytes, &mut more));
     row("trace", trace, run);
     assert!(bytes == more, "trace run: the costs differ");
-    println!("batch-to-trace {} {n} {:.2} {:.2} {:.2}", trace.name, run.1, batch.1, batch.1 / run.1);
+    line(&format!("batch-to-trace {} {n} {:.2} {:.2} {:.2}", trace.name, run.1, batch.1, batch.1 / run.1));
 }
 
 fn main() {
     let seed = std::env::args().nth(1).and_then(|s| s.parse().ok()).unwrap_or(60);
-    println!("# what trace retirements rust-ns port-ns ratio (batch-to-trace: trace-ns batch-ns ratio), seed {seed}");
+    line(&format!("# what trace retirements rust-ns port-ns ratio (batch-to-trace: trace-ns batch-ns ratio), seed {seed}"));
     for make in [traces::random, traces::looped, traces::mixed] {
         measure(&make(seed, 100_000));
     }
-    println!("# growth");
+    line("# growth");
     for n in [1_000, 10_000, 100_000, 800_000] {
         measure(&traces::mixed(seed, n));
     }

@@ -7,6 +7,7 @@ use crate::format::*;
 use std::fmt::Write as _;
 use std::io::{Read, Write};
 use std::process::{Command, Stdio};
+use std::time::Instant;
 
 pub struct Random(u64);
 
@@ -437,6 +438,17 @@ fn limits() -> Vec<Case> {
     all
 }
 
+/// A trace of up to some 3,000 records, one in two damaged.
+pub fn random_trace(seed: u64) -> Vec<u8> {
+    let mut rng = Random::new(seed + 1);
+    let size = rng.pick(&[1, 5, 40, 400, 3000]);
+    let mut bytes: Vec<u8> = events(&mut rng, size).iter().flat_map(record).collect();
+    if rng.one_in(2) {
+        damage(&mut rng, &mut bytes);
+    }
+    bytes
+}
+
 /// The cases that the gate replays: traces and images, and then batches and breaks.
 pub fn sample() -> Vec<Case> {
     let mut all = limits();
@@ -532,8 +544,13 @@ pub fn run(runner: &[String], seed: u64, scale: u64) -> Result<(usize, usize), S
     let retired: usize = second.iter().filter(|c| c.batch()).map(|c| read_batch(&c.bytes, c.room).map_or(0, |e| e.len())).sum();
     println!("{} batches and {} batches of structs with {retired} retirements, {} breaks", count(&second, BATCH), count(&second, SLICE), count(&second, BREAK));
     let (mut passed, mut failed) = (0, 0);
+    let mut said = Instant::now();
     for some in first.chunks(2000).chain(second.chunks(2000)) {
         let lines = answers(runner, some)?;
+        if said.elapsed().as_secs() >= 3 {
+            eprintln!("tests/differential: {} of {} cases", passed + failed, first.len() + second.len());
+            said = Instant::now();
+        }
         for (i, case) in some.iter().enumerate() {
             let expected = case.expected();
             let got = lines.get(i).map_or("(no line)", String::as_str);

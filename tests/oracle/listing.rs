@@ -1,4 +1,5 @@
-//! What the cost lister and `replay` must print, from the independent reader and the Rust module; and the example traces.
+//! What the cost lister, `replay` and `show_trace` must print, from the independent reader and the Rust module; and the
+//! examples.
 use crate::core060::timing_060::Oep060Timing;
 use crate::format::*;
 use std::fmt::Write as _;
@@ -6,15 +7,17 @@ use std::path::Path;
 
 const LISTED: usize = 65_536;
 
+// The events of a trace that the tools take, or the line of its refusal.
+fn short(trace: &[u8]) -> Result<Vec<Event>, String> {
+    let read = if trace.len() > LISTED { Err((1, 0)) } else { read_trace(trace, usize::MAX) };
+    read.map_err(|(n, p)| format!("refused {n} at {p}\n"))
+}
+
 // The lister's lines, and the next state.
 fn listing(trace: &[u8], mut state: Oep060Timing) -> (String, Option<Oep060Timing>) {
-    let refused = |(n, p): Refused| (format!("refused {n} at {p}\n"), None);
-    if trace.len() > LISTED {
-        return refused((1, 0));
-    }
-    let events = match read_trace(trace, usize::MAX) {
+    let events = match short(trace) {
         Ok(events) => events,
-        Err(why) => return refused(why),
+        Err(line) => return (line, None),
     };
     let mut text = "index opcode clocks\n".to_string();
     let (mut count, mut total) = (0u64, 0u64);
@@ -53,6 +56,41 @@ pub fn replay(input: &[u8]) -> String {
         }
     }
     text
+}
+
+pub fn show_trace(trace: &[u8]) -> String {
+    let events = match short(trace) {
+        Ok(events) => events,
+        Err(line) => return line,
+    };
+    let mut text = "place record opcode flags ppc pc raw\n".to_string();
+    let mut at = 0;
+    for e in &events {
+        let said = match e {
+            Event::Retired(r) => {
+                let flags: String = "fcebs".chars().enumerate().map(|(bit, letter)| if r.flags & 1 << bit != 0 { letter } else { '-' }).collect();
+                format!("retirement {:04X} {flags} {:08X} {:08X} {}", r.op, r.ppc, r.pc, r.raw)
+            }
+            Event::Break => "break".into(),
+            Event::ClearAll => "clear-all".into(),
+            Event::ClearUser => "clear-user".into(),
+        };
+        writeln!(text, "{at} {said}").unwrap();
+        at += record(e).len();
+    }
+    writeln!(text, "end {}", trace.len()).unwrap();
+    text
+}
+
+/// A trace for `show_trace`: every kind, each flag alone, none and all, and raw counts of every length and both signs.
+pub fn show_trace_input() -> Vec<u8> {
+    let mut events = vec![retired(0x7000, 0x1E, 0x1000, 0x1002, 4), Event::Break, Event::ClearAll, Event::ClearUser];
+    let raws = [i32::MIN, i32::MAX, -1, 0, -3, 9, -10, 1_000_000_000];
+    for (flags, raw) in [0, 1, 2, 4, 8, 16, 31, 0x15].into_iter().zip(raws) {
+        events.push(retired(0x0BAD << flags % 5, flags, raw as u32, 0xFFFF_FFFF >> flags, raw));
+        events.push(if raw < 0 { Event::ClearUser } else { Event::Break });
+    }
+    bytes(&events)
 }
 
 fn retired(op: u16, flags: u16, ppc: u32, pc: u32, raw: i32) -> Event {
@@ -140,7 +178,10 @@ pub fn examples(to: &Path) -> std::io::Result<()> {
     ];
     for (name, trace) in all {
         std::fs::write(to.join(format!("{name}.txt")), cost_lister(&trace))?;
+        std::fs::write(to.join(format!("{name}.show.txt")), show_trace(&trace))?;
         std::fs::write(to.join(format!("{name}.trace")), trace)?;
     }
-    Ok(())
+    let fresh = write_image(&Oep060Timing::default());
+    std::fs::write(to.join("fresh.image"), &fresh)?;
+    std::fs::write(to.join("worked.replay.txt"), replay(&[&fresh[..], &bytes(&worked())].concat()))
 }

@@ -4,8 +4,10 @@
 //! oracle worked        the worked instructions of document 01 that are run: the fallback, and RTS that flowed
 //! oracle cases_input, oracle cases    the cases that the gate replays, and what the port must answer
 //! oracle lister_limit                 what the lister must print of 65,536 and of 65,537 bytes of breaks
-//! oracle cost_lister, oracle replay   what these programs must print of standard input
-//! oracle examples DIR                 writes the example traces and what the lister must print of them
+//! oracle cost_lister, oracle replay, oracle show_trace    what these programs must print of standard input
+//! oracle show_trace_input             the trace that the gate shows
+//! oracle random_trace SEED            a trace of up to some 3,000 records, one in two damaged
+//! oracle examples DIR                 writes the examples and what the programs must print of them
 //! oracle differential SEED SCALE RUNNER..   the port's program `cases`, run by RUNNER, against this module
 #![allow(dead_code, unexpected_cfgs)]
 
@@ -87,9 +89,12 @@ fn main() {
         Some("lister_limit") => out.write_all(listing::lister_limit().as_bytes()),
         Some("cost_lister") => input().and_then(|s| out.write_all(listing::cost_lister(&s).as_bytes())),
         Some("replay") => input().and_then(|s| out.write_all(listing::replay(&s).as_bytes())),
+        Some("show_trace") => input().and_then(|s| out.write_all(listing::show_trace(&s).as_bytes())),
+        Some("show_trace_input") => out.write_all(&listing::show_trace_input()),
+        Some("random_trace") if words.len() == 2 => out.write_all(&differential::random_trace(words[1].parse().unwrap_or(0))),
         Some("examples") if words.len() == 2 => listing::examples(std::path::Path::new(&words[1])),
         _ => {
-            eprintln!("usage: oracle all_opcodes | worked | cases_input | cases | lister_limit | cost_lister | replay | examples DIR | differential SEED SCALE RUNNER..");
+            eprintln!("usage: oracle all_opcodes | worked | cases_input | cases | lister_limit | cost_lister | replay | show_trace | show_trace_input | random_trace SEED | examples DIR | differential SEED SCALE RUNNER..");
             std::process::exit(2);
         }
     };

@@ -1,0 +1,258 @@
+//! The parts of the product: what one retirement, a clear and a break can tell apart.
+use crate::core060::timing_060::{F_BRANCH, info_060};
+use crate::pair::{Pair, slots_from};
+use crate::sides::*;
+
+pub struct Part {
+    pub name: &'static str,
+    /// How many there are of each factor: the product is the number of steps.
+    pub factors: Vec<(usize, &'static str)>,
+    /// Steps through all that goes with one of the first factor, which the threads share out.
+    pub each: Box<dyn Fn(&mut Pair, usize) + Sync>,
+}
+
+impl Part {
+    pub fn product(&self) -> u64 {
+        self.factors.iter().map(|(n, _)| *n as u64).product()
+    }
+}
+
+const FLAGS: usize = 32;
+
+/// Opcodes that are branches, or that are none.
+fn opcodes(branches: bool) -> Vec<u16> {
+    (0..=0xFFFF).filter(|&op| info_060(op).has(F_BRANCH) == branches).collect()
+}
+
+const ALL_FIELDS: Window = [1, 0xFFFF, 1, 1, 1];
+const NO_FIELDS: Window = [1, 0, 0, 0, 0];
+/// Any simple follower joins this one.
+const JOINED: Window = [1, 0, 0, 0, 1];
+/// A shut window with its other fields set, and an open one whose yes is not 1.
+const SHUT_WITH_FIELDS: Window = [0, 0xFFFF, 1, 1, 1];
+const OTHER_YES: Window = [2, 0, 0x0100, 0x8000, 0xFFFF];
+
+/// Of a window both sides tell apart whether it is open, whether the follower touches a register of its def mask, and
+/// CCR, memory, cached. Which registers a follower touches is told by the masks of a single register.
+fn windows() -> Vec<Window> {
+    let mut all = vec![SHUT];
+    for defs in [0, 0xFFFF].into_iter().chain((0..16).map(|r| 1 << r)) {
+        all.extend((0..8).map(|bits| [1, defs, bits & 1, bits >> 1 & 1, bits >> 2 & 1]));
+    }
+    all.extend([SHUT_WITH_FIELDS, OTHER_YES]);
+    all
+}
+
+/// A step that is no branch meets a slot which any update would change: valid, its tag equal, its counter 2.
+fn plain_step(op: u16) -> Step {
+    let ppc = 0x0040_0000 + op as u32;
+    Step { op, flags: 0, raw: 0, ppc, pc: ppc.wrapping_add(2), window: SHUT, byte: 0x06, tag: ppc }
+}
+
+/// Every opcode that is no branch. The cost has the raw count only through what the fallback makes of it: here 1, which
+/// is under the floor of a change of flow, and 11, which is over it. All other sides of it are `raw_edges`.
+pub fn no_branches() -> Part {
+    let (ops, windows, raws) = (opcodes(false), windows(), [4, 44]);
+    Part {
+        name: "no branch",
+        factors: vec![(ops.len(), "opcodes"), (FLAGS, "flags"), (windows.len(), "windows"), (raws.len(), "raw counts")],
+        each: Box::new(move |pair, i| {
+            let mut s = plain_step(ops[i]);
+            for flags in 0..FLAGS as u16 {
+                s.flags = flags;
+                for &window in &windows {
+                    s.window = window;
+                    for raw in raws {
+                        s.raw = raw;
+                        pair.compare(&s);
+                    }
+                }
+                pair.look_at_other_slots(&s);
+            }
+        }),
+    }
+}
+
+/// Raw counts on both sides of each place where the fallback's rule, or the maximum with the floor of a change of flow,
+/// goes over: the multiples of 4 about 0 with their neighbours, 5 and 6 times 4, and both ends of i32.
+fn edges() -> Vec<i32> {
+    let low_end = [0, 1, 3, 4].map(|n| i32::MIN + n);
+    let high_end = [7, 4, 3, 1, 0].map(|n| i32::MAX - n);
+    (-9..=13).chain([16, 19, 20, 21, 23, 24, 25, 27, 28]).chain(low_end).chain(high_end).collect()
+}
+
+/// The raw counts at the fallback's edges. The window takes part in the cost only by the dispatch test, which reads no
+/// raw count, so that a shut window and one that is joined are enough.
+pub fn raw_edges() -> Part {
+    let (ops, windows, raws) = (opcodes(false), [SHUT, JOINED], edges());
+    Part {
+        name: "raw counts at the edges",
+        factors: vec![(ops.len(), "opcodes"), (FLAGS, "flags"), (windows.len(), "windows"), (raws.len(), "raw counts")],
+        each: Box::new(move |pair, i| {
+            let mut s = plain_step(ops[i]);
+            for flags in 0..FLAGS as u16 {
+                s.flags = flags;
+                for window in windows {
+                    s.window = window;
+                    for &raw in &raws {
+                        s.raw = raw;
+                        pair.compare(&s);
+                    }
+                }
+                pair.look_at_other_slots(&s);
+            }
+        }),
+    }
+}
+
+/// Where a branch stands: in the middle, in any slot and at odd addresses too; and at the edge of 2^32.
+fn places(op: u16) -> [u32; 4] {
+    [0x0040_0000 + op as u32, 0xFFFF_FFFC, 0xFFFF_FFFE, 0]
+}
+
+/// Where it goes: on to ppc + 4; elsewhere, one bit beside that, another bit for each eight bytes; to itself; to
+/// ppc + 2.
+fn next_places(ppc: u32, byte: u8) -> [u32; 4] {
+    let through = ppc.wrapping_add(4);
+    [through, through ^ 1 << (byte >> 3), ppc, ppc.wrapping_add(2)]
+}
+
+/// The slot's tag: equal; or not, by one bit, another one for each eight bytes, so that each goes with all counters.
+fn tags(ppc: u32, byte: u8) -> [u32; 2] {
+    [ppc, ppc ^ 1 << (byte >> 3)]
+}
+
+/// Every branch opcode in every slot. A branch reads of the window whether it is open, and no raw count: that it reads
+/// nothing else is `branch_windows`.
+pub fn branches() -> Part {
+    let (ops, windows) = (opcodes(true), [SHUT, ALL_FIELDS, NO_FIELDS]);
+    Part {
+        name: "branches",
+        factors: vec![
+            (ops.len(), "opcodes"),
+            (FLAGS, "flags"),
+            (256, "slot bytes"),
+            (2, "tags"),
+            (windows.len(), "windows"),
+            (4, "pc"),
+            (4, "ppc"),
+        ],
+        each: Box::new(move |pair, i| {
+            for ppc in places(ops[i]) {
+                for flags in 0..FLAGS as u16 {
+                    let s = Step { ppc, flags, ..plain_step(ops[i]) };
+                    for window in windows {
+                        step_slots(pair, Step { window, ..s });
+                    }
+                    pair.look_at_other_slots(&s);
+                }
+            }
+        }),
+    }
+}
+
+/// Every byte and both tags of the slot, to each next place.
+fn step_slots(pair: &mut Pair, mut s: Step) {
+    for byte in 0..=255 {
+        s.byte = byte;
+        for tag in tags(s.ppc, byte) {
+            s.tag = tag;
+            for pc in next_places(s.ppc, byte) {
+                s.pc = pc;
+                pair.compare(&s);
+            }
+        }
+    }
+}
+
+/// Every branch opcode in every window, with raw counts at both ends and in between: a slot that misses, and those that
+/// predict not taken and taken.
+pub fn branch_windows() -> Part {
+    let (ops, windows, raws, bytes) = (opcodes(true), windows(), [4, 44, i32::MIN, i32::MAX], [0x00, 0x05, 0x07]);
+    Part {
+        name: "branches in every window",
+        factors: vec![
+            (ops.len(), "opcodes"),
+            (FLAGS, "flags"),
+            (windows.len(), "windows"),
+            (raws.len(), "raw counts"),
+            (bytes.len(), "slot bytes"),
+            (2, "pc"),
+        ],
+        each: Box::new(move |pair, i| {
+            let mut s = plain_step(ops[i]);
+            for flags in 0..FLAGS as u16 {
+                s.flags = flags;
+                for &window in &windows {
+                    s.window = window;
+                    for raw in raws {
+                        s.raw = raw;
+                        for byte in bytes {
+                            s.byte = byte;
+                            for pc in [s.ppc.wrapping_add(4), s.ppc] {
+                                s.pc = pc;
+                                pair.compare(&s);
+                            }
+                        }
+                    }
+                }
+                pair.look_at_other_slots(&s);
+            }
+        }),
+    }
+}
+
+/// Every byte in every slot, all slots at once, through both clears.
+pub fn clears() -> Part {
+    let windows = windows();
+    Part {
+        name: "clears",
+        factors: vec![(256, "slot bytes in 256 slots"), (windows.len(), "windows"), (2, "clears")],
+        each: Box::new(move |pair, shift| {
+            let slots = slots_from(shift);
+            for &window in &windows {
+                for all in [true, false] {
+                    pair.compare_clear(all, &slots, window);
+                }
+            }
+            pair.put_slots_back();
+        }),
+    }
+}
+
+/// Every window, open or shut, through the break.
+pub fn breaks() -> Part {
+    Part {
+        name: "breaks",
+        factors: vec![(0x1_0000, "def masks"), (8, "fields"), (3, "open or shut")],
+        each: Box::new(|pair, defs| {
+            for bits in 0..8 {
+                for open in [1, 0, 0xFFFF] {
+                    pair.compare_break([open, defs as u16, bits & 1, bits >> 1 & 1, bits >> 2 & 1]);
+                }
+            }
+        }),
+    }
+}
+
+/// RTS is VARIABLE and not indexed: where it keeps the flow its cost is the fallback's, else at least the floor's.
+const RTS: u16 = 0x4E75;
+
+/// All 2^32 raw counts.
+pub fn all_raws() -> Part {
+    Part {
+        name: "all raw counts",
+        factors: vec![(0x1_0000, "upper halves"), (0x1_0000, "lower halves of a raw count"), (2, "flows")],
+        each: Box::new(|pair, high| {
+            let mut s = plain_step(RTS);
+            for flags in [0, FLOWED] {
+                s.flags = flags;
+                for low in 0..=0xFFFF {
+                    s.raw = ((high as u32) << 16 | low) as i32;
+                    pair.compare(&s);
+                }
+            }
+            pair.look_at_other_slots(&s);
+        }),
+    }
+}

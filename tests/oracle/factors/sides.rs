@@ -1,0 +1,222 @@
+//! The two sides: the Rust module over its stand-in CpuCore, and the proved library over the numbers that it is lent.
+use crate::core060::cpu::{CACR_060_EBC, CpuCore, PCR_ESS};
+use crate::core060::timing_060::{BranchCache060, Oep060Timing, PendingHead060};
+
+unsafe extern "C" {
+    fn timing_060_retire_at(
+        tags: *mut u32,
+        state: *mut u8,
+        window: *mut u16,
+        op: u16,
+        flags: u16,
+        ppc: u32,
+        pc: u32,
+        raw: i32,
+    ) -> u32;
+    fn timing_060_break_at(window: *mut u16);
+    fn timing_060_clear_all_at(state: *mut u8, window: *mut u16);
+    fn timing_060_clear_user_at(state: *mut u8, window: *mut u16);
+}
+
+pub const FLOWED: u16 = 1;
+pub const CACHED: u16 = 2;
+pub const ESS: u16 = 4;
+pub const EBC: u16 = 8;
+pub const SUPERVISOR: u16 = 16;
+
+/// A window as the library is lent it: open, def mask, CCR, memory, cached; anything but 0 is yes. To the Rust a shut
+/// one is no head, whatever else stands in it.
+pub type Window = [u16; 5];
+pub const SHUT: Window = [0; 5];
+
+fn head_of(w: Window) -> Option<PendingHead060> {
+    let [open, def_mask, ccr, mem, cached] = w;
+    (open != 0).then_some(PendingHead060 {
+        def_mask,
+        defines_ccr: ccr != 0,
+        accessed_mem: mem != 0,
+        head_cached: cached != 0,
+    })
+}
+
+fn window_of(head: &Option<PendingHead060>) -> Window {
+    match head {
+        None => SHUT,
+        Some(h) => [1, h.def_mask, h.defines_ccr as u16, h.accessed_mem as u16, h.head_cached as u16],
+    }
+}
+
+/// All 256 slots.
+#[derive(Clone, Copy, PartialEq, Eq)]
+pub struct Slots {
+    pub tags: [u32; 256],
+    pub bytes: [u8; 256],
+}
+
+/// The slot of an address.
+pub fn slot_of(ppc: u32) -> usize {
+    (ppc >> 1) as usize & 0xFF
+}
+
+/// One retirement, and what it meets: the window, and the byte and the tag of its slot.
+#[derive(Clone, Copy)]
+pub struct Step {
+    pub op: u16,
+    pub flags: u16,
+    pub raw: i32,
+    pub ppc: u32,
+    pub pc: u32,
+    pub window: Window,
+    pub byte: u8,
+    pub tag: u32,
+}
+
+/// What a step leaves.
+#[derive(Clone, Copy, PartialEq, Eq)]
+pub struct After {
+    pub cost: i64,
+    pub window: Window,
+    pub byte: u8,
+    pub tag: u32,
+}
+
+pub trait Side {
+    fn put_window(&mut self, w: Window);
+    fn put_slot(&mut self, i: usize, tag: u32, byte: u8);
+    fn window(&self) -> Window;
+    fn tags(&self) -> &[u32];
+    fn bytes(&self) -> &[u8];
+    fn retire(&mut self, s: &Step) -> i64;
+    fn break_window(&mut self);
+    fn clear_all(&mut self);
+    fn clear_user(&mut self);
+
+    fn put_slots(&mut self, slots: &Slots) {
+        for i in 0..256 {
+            self.put_slot(i, slots.tags[i], slots.bytes[i]);
+        }
+    }
+
+    fn has(&self, slots: &Slots) -> bool {
+        self.tags() == slots.tags && self.bytes() == slots.bytes
+    }
+
+    /// What a step meets: its window and its slot, and nothing else is written beforehand.
+    fn put(&mut self, s: &Step) {
+        self.put_window(s.window);
+        self.put_slot(slot_of(s.ppc), s.tag, s.byte);
+    }
+
+    fn after(&self, s: &Step, cost: i64) -> After {
+        let i = slot_of(s.ppc);
+        After { cost, window: self.window(), byte: self.bytes()[i], tag: self.tags()[i] }
+    }
+}
+
+pub struct Rust(CpuCore);
+
+impl Rust {
+    pub fn new(slots: &Slots) -> Self {
+        let branch_cache = BranchCache060::oracle_of(slots.tags.to_vec(), slots.bytes.to_vec());
+        Rust(CpuCore { oep060: Oep060Timing { branch_cache, pending_head: None }, ..CpuCore::default() })
+    }
+}
+
+impl Side for Rust {
+    fn put_window(&mut self, w: Window) {
+        self.0.oep060.pending_head = head_of(w);
+    }
+
+    fn put_slot(&mut self, i: usize, tag: u32, byte: u8) {
+        let (tags, bytes) = self.0.oep060.branch_cache.oracle_parts_mut();
+        tags[i] = tag;
+        bytes[i] = byte;
+    }
+
+    fn window(&self) -> Window {
+        window_of(&self.0.oep060.pending_head)
+    }
+
+    fn tags(&self) -> &[u32] {
+        self.0.oep060.branch_cache.oracle_parts().0
+    }
+
+    fn bytes(&self) -> &[u8] {
+        self.0.oep060.branch_cache.oracle_parts().1
+    }
+
+    fn retire(&mut self, s: &Step) -> i64 {
+        let cpu = &mut self.0;
+        cpu.ir = s.op as u32;
+        cpu.ppc = s.ppc;
+        cpu.pc = s.pc;
+        cpu.change_of_flow = s.flags & FLOWED != 0;
+        cpu.pcr = if s.flags & ESS != 0 { PCR_ESS } else { 0 };
+        cpu.cacr = if s.flags & EBC != 0 { CACR_060_EBC } else { 0 };
+        cpu.supervisor = s.flags & SUPERVISOR != 0;
+        cpu.cycles_060(s.raw, s.flags & CACHED != 0) as i64
+    }
+
+    fn break_window(&mut self) {
+        self.0.break_060_pipeline();
+    }
+
+    fn clear_all(&mut self) {
+        self.0.oep060.branch_cache.clear_all();
+    }
+
+    fn clear_user(&mut self) {
+        self.0.oep060.branch_cache.clear_user();
+    }
+}
+
+pub struct Library {
+    slots: Slots,
+    window: Window,
+}
+
+impl Library {
+    pub fn new(slots: &Slots) -> Self {
+        Library { slots: *slots, window: SHUT }
+    }
+}
+
+impl Side for Library {
+    fn put_window(&mut self, w: Window) {
+        self.window = w;
+    }
+
+    fn put_slot(&mut self, i: usize, tag: u32, byte: u8) {
+        self.slots.tags[i] = tag;
+        self.slots.bytes[i] = byte;
+    }
+
+    fn window(&self) -> Window {
+        self.window
+    }
+
+    fn tags(&self) -> &[u32] {
+        &self.slots.tags
+    }
+
+    fn bytes(&self) -> &[u8] {
+        &self.slots.bytes
+    }
+
+    fn retire(&mut self, s: &Step) -> i64 {
+        let (tags, bytes) = (self.slots.tags.as_mut_ptr(), self.slots.bytes.as_mut_ptr());
+        unsafe { timing_060_retire_at(tags, bytes, self.window.as_mut_ptr(), s.op, s.flags, s.ppc, s.pc, s.raw) as i64 }
+    }
+
+    fn break_window(&mut self) {
+        unsafe { timing_060_break_at(self.window.as_mut_ptr()) }
+    }
+
+    fn clear_all(&mut self) {
+        unsafe { timing_060_clear_all_at(self.slots.bytes.as_mut_ptr(), self.window.as_mut_ptr()) }
+    }
+
+    fn clear_user(&mut self) {
+        unsafe { timing_060_clear_user_at(self.slots.bytes.as_mut_ptr(), self.window.as_mut_ptr()) }
+    }
+}
