@@ -13,7 +13,7 @@ equal-factors =
     record {
       equal = λ t t' r r' e. same-step t t' r r' (ap coarse e);
       equalButTouched = same-step;
-      equalOfBranch = same-branch;
+      equalOfBranch = λ t t' r r' h e. same-branch t t' r r' h e;
       form = λ f. formFrom (crateProfile (f .op)) f (f .branch);
       fallbackInForm = λ t r.
           step-cost t r
