@@ -4,3 +4,5 @@ pub mod Rows
 pub mod Words
 pub mod Filling
 pub mod Packing
+pub mod Below
+pub mod LaidOut

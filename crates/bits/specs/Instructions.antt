@@ -2,48 +2,56 @@
 -- or the low part of them. A pattern is named for the instructions that it is meant for; which others it catches is
 -- said where it is used.
 --
---   dataRegister   ==  the operand is a data register: mode 0                     op & 0038 is 0000 (hex)
---   immediate      ==  the operand is immediate: mode 7 reg 4                     op & 003F is 003C (hex)
---   size01         ==  bits 6 and 7 are 01                                        op & 00C0 is 0040 (hex)
---   size11         ==  bits 6 and 7 are 11                                        op & 00C0 is 00C0 (hex)
---   toOperand      ==  bit 8 is set: the operand is the destination               op & 0100 is 0100 (hex)
---   bitDynamic     ==  BTST, BCHG, BCLR, BSET with the bit in a register; MOVEP   op & 0100 is 0100 (hex)
---   bitStatic      ==  BTST, BCHG, BCLR, BSET with the bit immediate              op & 0F00 is 0800 (hex)
---   btst           ==  BTST, among the bit operations                             op & 00C0 is 0000 (hex)
---   cmp2           ==  CMP2, CHK2                                                 op & 0FC0 is 00C0 (hex)
---   cas            ==  CAS, CAS2                                                  op & 09C0 is 08C0 (hex)
---   cmpi           ==  CMPI                                                       op & 0F00 is 0C00 (hex)
---   moveFromSr     ==  MOVE from SR                                               op & 0FC0 is 00C0 (hex)
---   moveFromCcr    ==  MOVE from CCR                                              op & 0FC0 is 02C0 (hex)
---   moveToCcr      ==  MOVE to CCR                                                op & 0FC0 is 04C0 (hex)
---   moveToSr       ==  MOVE to SR                                                 op & 0FC0 is 06C0 (hex)
---   movem          ==  MOVEM                                                      op & 0B80 is 0880 (hex)
---   tas            ==  TAS                                                        op & 0FC0 is 0AC0 (hex)
---   mullDivl       ==  MULL, DIVL                                                 op & 0F80 is 0C00 (hex)
---   swap           ==  SWAP                                                       op & 0FF8 is 0840 (hex)
---   nbcdExt        ==  NBCD, EXT, EXTB                                            op & 0E00 is 0800 (hex)
---   clr            ==  CLR                                                        op & 0F00 is 0200 (hex)
---   negx           ==  NEGX                                                       op & 0F00 is 0000 (hex)
---   neg            ==  NEG                                                        op & 0F00 is 0400 (hex)
---   not'           ==  NOT                                                        op & 0F00 is 0600 (hex)
---   lea            ==  LEA                                                        op & 01C0 is 01C0 (hex)
---   chk            ==  CHK                                                        op & 01C0 is 0180 (hex)
---   tst            ==  TST                                                        op & 0F00 is 0A00 (hex)
---   dbcc           ==  DBcc                                                       op & 00F8 is 00C8 (hex)
---   bra            ==  BRA                                                        op & 0F00 is 0000 (hex)
---   sbcdAbcd       ==  SBCD in group 8, ABCD in group 12                          op & 01F0 is 0100 (hex)
---   pack           ==  PACK                                                       op & 01F0 is 0140 (hex)
---   addxSubx       ==  ADDX, SUBX                                                 op & 0130 is 0100 (hex)
---   exgData        ==  EXG of data registers                                      op & 01F8 is 0140 (hex)
---   exgAddress     ==  EXG of address registers                                   op & 01F8 is 0148 (hex)
---   exgBoth        ==  EXG of a data and an address register                      op & 01F8 is 0188 (hex)
---   bitField       ==  the bit field instructions                                 op & 08C0 is 08C0 (hex)
---   rox            ==  ROXL, ROXR                                                 op & 0018 is 0010 (hex)
+--   dataRegister     ==  the operand is a data register: mode 0                     op & 0038 is 0000 (hex)
+--   addressRegister  ==  the operand is an address register: mode 1                 op & 0038 is 0008 (hex)
+--   anyRegister      ==  the operand is a register: mode 0 or 1                     op & 0030 is 0000 (hex)
+--   immediate        ==  the operand is immediate: mode 7 reg 4                     op & 003F is 003C (hex)
+--   size01           ==  bits 6 and 7 are 01                                        op & 00C0 is 0040 (hex)
+--   size11           ==  bits 6 and 7 are 11                                        op & 00C0 is 00C0 (hex)
+--   toOperand        ==  bit 8 is set: the operand is the destination               op & 0100 is 0100 (hex)
+--   bitDynamic       ==  BTST, BCHG, BCLR, BSET with the bit in a register; MOVEP   op & 0100 is 0100 (hex)
+--   bitStatic        ==  BTST, BCHG, BCLR, BSET with the bit immediate              op & 0F00 is 0800 (hex)
+--   btst             ==  BTST, among the bit operations                             op & 00C0 is 0000 (hex)
+--   cmp2             ==  CMP2, CHK2                                                 op & 0FC0 is 00C0 (hex)
+--   cas              ==  CAS, CAS2                                                  op & 09C0 is 08C0 (hex)
+--   cmpi             ==  CMPI                                                       op & 0F00 is 0C00 (hex)
+--   moveFromSr       ==  MOVE from SR                                               op & 0FC0 is 00C0 (hex)
+--   moveFromCcr      ==  MOVE from CCR                                              op & 0FC0 is 02C0 (hex)
+--   moveToCcr        ==  MOVE to CCR                                                op & 0FC0 is 04C0 (hex)
+--   moveToSr         ==  MOVE to SR                                                 op & 0FC0 is 06C0 (hex)
+--   movem            ==  MOVEM                                                      op & 0B80 is 0880 (hex)
+--   tas              ==  TAS                                                        op & 0FC0 is 0AC0 (hex)
+--   mullDivl         ==  MULL, DIVL                                                 op & 0F80 is 0C00 (hex)
+--   swap             ==  SWAP                                                       op & 0FF8 is 0840 (hex)
+--   nbcdExt          ==  NBCD, EXT, EXTB                                            op & 0E00 is 0800 (hex)
+--   clr              ==  CLR                                                        op & 0F00 is 0200 (hex)
+--   negx             ==  NEGX                                                       op & 0F00 is 0000 (hex)
+--   neg              ==  NEG                                                        op & 0F00 is 0400 (hex)
+--   not'             ==  NOT                                                        op & 0F00 is 0600 (hex)
+--   lea              ==  LEA                                                        op & 01C0 is 01C0 (hex)
+--   chk              ==  CHK                                                        op & 01C0 is 0180 (hex)
+--   tst              ==  TST                                                        op & 0F00 is 0A00 (hex)
+--   dbcc             ==  DBcc                                                       op & 00F8 is 00C8 (hex)
+--   bra              ==  BRA                                                        op & 0F00 is 0000 (hex)
+--   sbcdAbcd         ==  SBCD in group 8, ABCD in group 12                          op & 01F0 is 0100 (hex)
+--   pack             ==  PACK                                                       op & 01F0 is 0140 (hex)
+--   addxSubx         ==  ADDX, SUBX                                                 op & 0130 is 0100 (hex)
+--   exgData          ==  EXG of data registers                                      op & 01F8 is 0140 (hex)
+--   exgAddress       ==  EXG of address registers                                   op & 01F8 is 0148 (hex)
+--   exgBoth          ==  EXG of a data and an address register                      op & 01F8 is 0188 (hex)
+--   bitField         ==  the bit field instructions                                 op & 08C0 is 08C0 (hex)
+--   rox              ==  ROXL, ROXR                                                 op & 0018 is 0010 (hex)
 use Rattle.bits.specs.Pattern.{Pattern, bits, _O, _I, _X}
 
 -- ---- operands, in the low six bits
 abbrev pub dataRegister : Pattern
 dataRegister = bits O O O X X X
+
+abbrev pub addressRegister : Pattern
+addressRegister = bits O O I X X X
+
+abbrev pub anyRegister : Pattern
+anyRegister = bits O O X X X X
 
 abbrev pub immediate : Pattern
 immediate = bits I I I I O O

@@ -5,8 +5,10 @@
 --   Fields        ==  the fields of an opcode
 --   Rows          ==  a rule as rows tried in order
 --   Words         ==  one bit of a word, bits packed into one, and two words with a bit in common
+--   Below         ==  tests of the numbers below a bound
 pub mod Pattern
 pub mod Instructions
 pub mod Fields
 pub mod Rows
 pub mod Words
+pub mod Below

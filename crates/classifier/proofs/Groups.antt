@@ -8,8 +8,8 @@ use lib.Dec.{eqb, leb}
 use borrow.Author.Tests.{ne-eqb, le-leb, lt-leb}
 use Rattle.bits.specs.Rows.{otherwise, first}
 use Rattle.class_word.specs.declared.Info060.{Info060}
-use Rattle.operand.specs.Entry.{packed, unclassified}
-use Rattle.low_groups.specs.LowGroups.{move}
+use Rattle.classifier.specs.Entry.{packed, unclassified}
+use Rattle.classifier.specs.LowGroups.{move}
 use Rattle.classifier.specs.Classify.{groups}
 
 -- a group of one number

@@ -1,7 +1,6 @@
 -- Document 01, part 2, "Classifying an opcode". The Rust: classify_060_opcode.
 --
--- Each group is a list of rows, tried in order: LowGroups of the crate low_groups, Group4 of the crate group_four, and
--- HighGroups of the crate high_groups.
+-- Each group is a list of rows, tried in order: LowGroups, Group4 and HighGroups.
 --
 --   groups g op    ==  the rows of group g   "The top four bits choose the group"
 --   entryOf op     ==  class, clocks and flags of an opcode
@@ -11,10 +10,10 @@ use mathlib.Core.Bool.{_&&_, _||_}
 use lib.Dec.{eqb, leb}
 use Rattle.bits.specs.Fields.{groupOf}
 use Rattle.bits.specs.Rows.{Rows, otherwise, _⇒_⨾_, first}
-use Rattle.operand.specs.Entry.{Entry, entryWord, unclassified}
-use Rattle.low_groups.specs.LowGroups.{group0, move, group5, group6, group7}
-use Rattle.group_four.specs.Group4.{group4}
-use Rattle.high_groups.specs.HighGroups.{group8, addSub, group11, group12, group14}
+use Rattle.classifier.specs.Entry.{Entry, entryWord, unclassified}
+use Rattle.classifier.specs.LowGroups.{group0, move, group5, group6, group7}
+use Rattle.classifier.specs.Group4.{group4}
+use Rattle.classifier.specs.HighGroups.{group8, addSub, group11, group12, group14}
 
 -- the last row is groups 10 and 15
 abbrev pub groups : ℕ → ℕ → Rows (Rows Entry)

@@ -1,14 +1,44 @@
 // Part 2 of document 01: the class word of every opcode.
 //
-// One match on the top four bits chooses the group; the rows of the groups are in `low_groups`, `group_four` and
-// `high_groups`, over `operand`. `step` and `host` call `info_060`; `profile` calls the groups from a match of its own.
+// `classify_060_opcode` looks the rule of the opcode's row up in `table` and lets it finish (`rules`): `step` and
+// `host` ask through `info_060`, and the page of the rules prints the table. `classify_by_group` is the same word by
+// one match on the top four bits, over the rows of `low_groups`, `group_four` and `high_groups`, and lays no table out:
+// for the fast step `profile` has the same arms, joined with those of the masks. `operand` makes the words that rows
+// share.
+mod group_four;
+mod high_groups;
+mod low_groups;
+mod operand;
+mod rules;
+mod table;
+
+pub use group_four::group4;
+pub use high_groups::add_sub;
+pub use high_groups::group8;
+pub use high_groups::group11;
+pub use high_groups::group12;
+pub use high_groups::group14;
+pub use low_groups::group0;
+pub use low_groups::group5;
+pub use low_groups::group6;
+pub use low_groups::group7;
+pub use low_groups::move_060;
+pub use operand::unclassified;
+pub use rules::finish;
+pub use table::rule_of;
 ghost use mathlib.Core.Path.{_≡_};
 ghost use Rattle.class_word.specs.Word.{info};
 ghost use Rattle.classifier.specs.Classify.{classifyOf};
 use class_word::Info060;
-use operand::unclassified;
 
 pub fn classify_060_opcode(op: u16) -> Info060
+    ensures { λ r. ⌜ r ≡ info (classifyOf op) ⌝ }
+{
+    rules::finish(table::rule_of(op), op & 63)
+}
+
+// The same by the groups.
+pub fn classify_by_group(op: u16) -> Info060
     ensures { λ r. ⌜ r ≡ info (classifyOf op) ⌝ }
 {
     match op >> 12 {

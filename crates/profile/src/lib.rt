@@ -23,17 +23,17 @@ pub fn instruction_060(op: u16) -> Instruction
     ensures { λ r. ⌜ r ≡ crateProfile op ⌝ }
 {
     match op >> 12 {
-        0x0 => joined(low_groups::group0(op), masks::full()),
-        0x1..=0x3 => joined(low_groups::move_060(op), masks::move_masks(op)),
-        0x4 => joined(group_four::group4(op), masks::group4_masks(op)),
-        0x5 => joined(low_groups::group5(op), masks::quick_masks(op)),
-        0x6 => joined(low_groups::group6(op), masks::full()),
-        0x7 => joined(low_groups::group7(op), masks::moveq_masks(op)),
-        0x8 => joined(high_groups::group8(op), masks::dyadic_masks(op)),
-        0x9 | 0xD => joined(high_groups::add_sub(op), masks::dyadic_masks(op)),
-        0xB => joined(high_groups::group11(op), masks::dyadic_masks(op)),
-        0xC => joined(high_groups::group12(op), masks::dyadic_masks(op)),
-        0xE => joined(high_groups::group14(op), masks::shift_masks(op)),
-        _ => joined(operand::unclassified(), masks::full()),
+        0x0 => joined(classifier::group0(op), masks::full()),
+        0x1..=0x3 => joined(classifier::move_060(op), masks::move_masks(op)),
+        0x4 => joined(classifier::group4(op), masks::group4_masks(op)),
+        0x5 => joined(classifier::group5(op), masks::quick_masks(op)),
+        0x6 => joined(classifier::group6(op), masks::full()),
+        0x7 => joined(classifier::group7(op), masks::moveq_masks(op)),
+        0x8 => joined(classifier::group8(op), masks::dyadic_masks(op)),
+        0x9 | 0xD => joined(classifier::add_sub(op), masks::dyadic_masks(op)),
+        0xB => joined(classifier::group11(op), masks::dyadic_masks(op)),
+        0xC => joined(classifier::group12(op), masks::dyadic_masks(op)),
+        0xE => joined(classifier::group14(op), masks::shift_masks(op)),
+        _ => joined(classifier::unclassified(), masks::full()),
     }
 }

@@ -6,7 +6,7 @@ use Prim.Native.Nat.{ℕ}
 use lib.Dec.{eqb, leb}
 use borrow.Author.Tests.{eqb-true, eq-eqb, le-leb}
 use Rattle.class_word.specs.Word.{classOf, clocksOf, has, BRANCH}
-use Rattle.low_groups.specs.LowGroups.{group7}
+use Rattle.classifier.specs.LowGroups.{group7}
 use Rattle.classifier.specs.Classify.{classifyOf}
 use Rattle.masks.specs.Registers.{maskOfRegs}
 use Rattle.masks.specs.Masks.{setsOf}

@@ -3,17 +3,17 @@
 use mathlib.Core.Path.{sym, _∙_}
 use contract.Lifetimes
 use Rattle.promises.specs.Determined.{Determined, result}
-use Rattle.low_groups.proofs.group0.Reads as low-groups-group0
-use Rattle.low_groups.proofs.move_060.Reads as low-groups-move-060
-use Rattle.group_four.proofs.group4.Reads as group-four-group4
-use Rattle.low_groups.proofs.group5.Reads as low-groups-group5
-use Rattle.low_groups.proofs.group6.Reads as low-groups-group6
-use Rattle.low_groups.proofs.group7.Reads as low-groups-group7
-use Rattle.high_groups.proofs.group8.Reads as high-groups-group8
-use Rattle.high_groups.proofs.add_sub.Reads as high-groups-add-sub
-use Rattle.high_groups.proofs.group11.Reads as high-groups-group11
-use Rattle.high_groups.proofs.group12.Reads as high-groups-group12
-use Rattle.high_groups.proofs.group14.Reads as high-groups-group14
+use Rattle.classifier.proofs.group0.Reads as classifier-group0
+use Rattle.classifier.proofs.move_060.Reads as classifier-move-060
+use Rattle.classifier.proofs.group4.Reads as classifier-group4
+use Rattle.classifier.proofs.group5.Reads as classifier-group5
+use Rattle.classifier.proofs.group6.Reads as classifier-group6
+use Rattle.classifier.proofs.group7.Reads as classifier-group7
+use Rattle.classifier.proofs.group8.Reads as classifier-group8
+use Rattle.classifier.proofs.add_sub.Reads as classifier-add-sub
+use Rattle.classifier.proofs.group11.Reads as classifier-group11
+use Rattle.classifier.proofs.group12.Reads as classifier-group12
+use Rattle.classifier.proofs.group14.Reads as classifier-group14
 use Rattle.masks.proofs.full.Reads as masks-full
 use Rattle.masks.proofs.move_masks.Reads as masks-move-masks
 use Rattle.masks.proofs.moveq_masks.Reads as masks-moveq-masks
@@ -24,38 +24,38 @@ use Rattle.masks.proofs.group4_masks.Reads as masks-group4-masks
 use Rattle.profile.proofs.instruction_060.Reads as profile-instruction-060
 
 module _ (κs : Lifetimes.Lfts 0) where
-  pub low-groups-group0-determined : Determined result (low-groups-group0.Post κs)
-  low-groups-group0-determined i r r′ x x′ p q = p ∙ sym q
+  pub classifier-group0-determined : Determined result (classifier-group0.Post κs)
+  classifier-group0-determined i r r′ x x′ p q = p ∙ sym q
 
-  pub low-groups-move-060-determined : Determined result (low-groups-move-060.Post κs)
-  low-groups-move-060-determined i r r′ x x′ p q = p ∙ sym q
+  pub classifier-move-060-determined : Determined result (classifier-move-060.Post κs)
+  classifier-move-060-determined i r r′ x x′ p q = p ∙ sym q
 
-  pub group-four-group4-determined : Determined result (group-four-group4.Post κs)
-  group-four-group4-determined i r r′ x x′ p q = p ∙ sym q
+  pub classifier-group4-determined : Determined result (classifier-group4.Post κs)
+  classifier-group4-determined i r r′ x x′ p q = p ∙ sym q
 
-  pub low-groups-group5-determined : Determined result (low-groups-group5.Post κs)
-  low-groups-group5-determined i r r′ x x′ p q = p ∙ sym q
+  pub classifier-group5-determined : Determined result (classifier-group5.Post κs)
+  classifier-group5-determined i r r′ x x′ p q = p ∙ sym q
 
-  pub low-groups-group6-determined : Determined result (low-groups-group6.Post κs)
-  low-groups-group6-determined i r r′ x x′ p q = p ∙ sym q
+  pub classifier-group6-determined : Determined result (classifier-group6.Post κs)
+  classifier-group6-determined i r r′ x x′ p q = p ∙ sym q
 
-  pub low-groups-group7-determined : Determined result (low-groups-group7.Post κs)
-  low-groups-group7-determined i r r′ x x′ p q = p ∙ sym q
+  pub classifier-group7-determined : Determined result (classifier-group7.Post κs)
+  classifier-group7-determined i r r′ x x′ p q = p ∙ sym q
 
-  pub high-groups-group8-determined : Determined result (high-groups-group8.Post κs)
-  high-groups-group8-determined i r r′ x x′ p q = p ∙ sym q
+  pub classifier-group8-determined : Determined result (classifier-group8.Post κs)
+  classifier-group8-determined i r r′ x x′ p q = p ∙ sym q
 
-  pub high-groups-add-sub-determined : Determined result (high-groups-add-sub.Post κs)
-  high-groups-add-sub-determined i r r′ x x′ p q = p ∙ sym q
+  pub classifier-add-sub-determined : Determined result (classifier-add-sub.Post κs)
+  classifier-add-sub-determined i r r′ x x′ p q = p ∙ sym q
 
-  pub high-groups-group11-determined : Determined result (high-groups-group11.Post κs)
-  high-groups-group11-determined i r r′ x x′ p q = p ∙ sym q
+  pub classifier-group11-determined : Determined result (classifier-group11.Post κs)
+  classifier-group11-determined i r r′ x x′ p q = p ∙ sym q
 
-  pub high-groups-group12-determined : Determined result (high-groups-group12.Post κs)
-  high-groups-group12-determined i r r′ x x′ p q = p ∙ sym q
+  pub classifier-group12-determined : Determined result (classifier-group12.Post κs)
+  classifier-group12-determined i r r′ x x′ p q = p ∙ sym q
 
-  pub high-groups-group14-determined : Determined result (high-groups-group14.Post κs)
-  high-groups-group14-determined i r r′ x x′ p q = p ∙ sym q
+  pub classifier-group14-determined : Determined result (classifier-group14.Post κs)
+  classifier-group14-determined i r r′ x x′ p q = p ∙ sym q
 
   pub masks-full-determined : Determined result (masks-full.Post κs)
   masks-full-determined i r r′ x x′ p q = p ∙ sym q

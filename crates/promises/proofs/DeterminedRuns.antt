@@ -31,6 +31,7 @@ use Rattle.listing.proofs.list_into.Reads as listing-list-into
 use Rattle.listing.proofs.list_trace.Reads as listing-list-trace
 use Rattle.replaying.proofs.replay_text.Reads as replaying-replay-text
 use Rattle.showing.proofs.show_trace.Reads as showing-show-trace
+use Rattle.rule_text.proofs.put_page.Reads as rule-text-put-page
 use Rattle.batch.proofs.batch_verdict.Reads as batch-batch-verdict
 
 module _ (κs : Lifetimes.Lfts 0) where
@@ -70,6 +71,9 @@ module _ (κs : Lifetimes.Lfts 1) where
 
   pub image-image-read-determined : Determined result (image-image-read.Post κs)
   image-image-read-determined i r r′ x x′ p q = p ∙ sym q
+
+  pub rule-text-put-page-determined : Determined (λ r x. written r (now (x .0))) (rule-text-put-page.Post κs)
+  rule-text-put-page-determined i r r′ x x′ p q = p .0 ∙ sym (q .0)
 
 module _ (κs : Lifetimes.Lfts 2) where
   pub trace-run-trace-determined : Determined (λ r x. traceOutcome r (now (x .1 .0))) (trace-run-trace.Post κs)

@@ -18,13 +18,12 @@ use Rattle.class_word.proofs.Info060.new.Reads as class-word-info060-new
 use Rattle.class_word.proofs.Info060.class.Reads as class-word-info060-class
 use Rattle.class_word.proofs.Info060.cycles.Reads as class-word-info060-cycles
 use Rattle.class_word.proofs.Info060.has.Reads as class-word-info060-has
-use Rattle.operand.proofs.operand_flags.Reads as operand-operand-flags
-use Rattle.operand.proofs.destination_flags.Reads as operand-destination-flags
-use Rattle.operand.proofs.alu_of.Reads as operand-alu-of
-use Rattle.operand.proofs.unclassified.Reads as operand-unclassified
-use Rattle.operand.proofs.poep_only.Reads as operand-poep-only
+use Rattle.classifier.proofs.unclassified.Reads as classifier-unclassified
 use Rattle.classifier.proofs.classify_060_opcode.Reads as classifier-classify-060-opcode
+use Rattle.classifier.proofs.classify_by_group.Reads as classifier-classify-by-group
 use Rattle.classifier.proofs.info_060.Reads as classifier-info-060
+use Rattle.classifier.proofs.rule_of.Reads as classifier-rule-of
+use Rattle.classifier.proofs.finish.Reads as classifier-finish
 use Rattle.masks.proofs.reg_masks_060.Reads as masks-reg-masks-060
 use Rattle.text.proofs.hex4.Reads as text-hex4
 
@@ -67,23 +66,20 @@ module _ (κs : Lifetimes.Lfts 0) where
   pub class-word-info060-has-determined : Determined result (class-word-info060-has.Post κs)
   class-word-info060-has-determined i r r′ x x′ p q = p ∙ sym q
 
-  pub operand-operand-flags-determined : Determined result (operand-operand-flags.Post κs)
-  operand-operand-flags-determined i r r′ x x′ p q = p ∙ sym q
-
-  pub operand-destination-flags-determined : Determined result (operand-destination-flags.Post κs)
-  operand-destination-flags-determined i r r′ x x′ p q = p ∙ sym q
-
-  pub operand-alu-of-determined : Determined result (operand-alu-of.Post κs)
-  operand-alu-of-determined i r r′ x x′ p q = p ∙ sym q
-
-  pub operand-unclassified-determined : Determined result (operand-unclassified.Post κs)
-  operand-unclassified-determined i r r′ x x′ p q = p ∙ sym q
-
-  pub operand-poep-only-determined : Determined result (operand-poep-only.Post κs)
-  operand-poep-only-determined i r r′ x x′ p q = p ∙ sym q
+  pub classifier-unclassified-determined : Determined result (classifier-unclassified.Post κs)
+  classifier-unclassified-determined i r r′ x x′ p q = p ∙ sym q
 
   pub classifier-classify-060-opcode-determined : Determined result (classifier-classify-060-opcode.Post κs)
   classifier-classify-060-opcode-determined i r r′ x x′ p q = p ∙ sym q
+
+  pub classifier-classify-by-group-determined : Determined result (classifier-classify-by-group.Post κs)
+  classifier-classify-by-group-determined i r r′ x x′ p q = p ∙ sym q
+
+  pub classifier-rule-of-determined : Determined result (classifier-rule-of.Post κs)
+  classifier-rule-of-determined i r r′ x x′ p q = p .0 ∙ sym (q .0)
+
+  pub classifier-finish-determined : Determined result (classifier-finish.Post κs)
+  classifier-finish-determined i r r′ x x′ p q = p ∙ sym q
 
   pub classifier-info-060-determined : Determined result (classifier-info-060.Post κs)
   classifier-info-060-determined i r r′ x x′ p q = p ∙ sym q

@@ -15,10 +15,10 @@ use Rattle.bits.proofs.Rows.{first-has}
 use Rattle.bits.proofs.Words.{num-small, num-is, meets-bit}
 use Rattle.class_word.specs.Word.{classNumber, wordOf, classOf, clocksOf, has, BRANCH, VARIABLE, «EA_INDEXED»}
 use Rattle.class_word.proofs.Words.{class-small, word-class, word-clocks}
-use Rattle.operand.specs.Entry.{Entry, accessFlags, entryWord}
-use Rattle.low_groups.specs.LowGroups.{group0, move, group5, group6, group7}
-use Rattle.group_four.specs.Group4.{group4}
-use Rattle.high_groups.specs.HighGroups.{group8, addSub, group11, group12, group14}
+use Rattle.classifier.specs.Entry.{Entry, accessFlags, entryWord}
+use Rattle.classifier.specs.LowGroups.{group0, move, group5, group6, group7}
+use Rattle.classifier.specs.Group4.{group4}
+use Rattle.classifier.specs.HighGroups.{group8, addSub, group11, group12, group14}
 use Rattle.classifier.specs.Classify.{groups, entryOf}
 
 abbrev pub inClass : ℕ → Entry → Bool

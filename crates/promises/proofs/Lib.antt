@@ -1,5 +1,6 @@
 pub mod Entries
 pub mod Opcodes
+pub mod Rules
 pub mod Worked
 pub mod Retirements
 pub mod Broken

@@ -7,7 +7,7 @@ use native.Mathlib.Omega.{arith}
 use lib.Dec.{eqb}
 use borrow.Author.Tests.{eq-eqb}
 use Rattle.class_word.specs.Word.{classNumber, classOf, clocksOf, has, VARIABLE, «EA_INDEXED»}
-use Rattle.operand.specs.Entry.{Entry, entryWord}
+use Rattle.classifier.specs.Entry.{Entry, entryWord}
 use Rattle.classifier.specs.Classify.{classifyOf, entryOf}
 use Rattle.promises.specs.Opcodes.{Fits, EveryOpcode}
 use Rattle.promises.proofs.Entries.{Sound, sound-of, class-kept, clocks-kept, branch-kept, variable-kept, indexed-kept, within}

@@ -2,10 +2,10 @@
 -- Assumes nothing.
 use mathlib.Core.Path.{refl}
 use Rattle.bits.specs.Pattern.{matches}
-use Rattle.operand.specs.Entry.{ea}
-use Rattle.low_groups.specs.LowGroups.{group0, move, group5, group6, group7}
-use Rattle.group_four.specs.Group4.{group4}
-use Rattle.high_groups.specs.HighGroups.{group8, addSub, group11, group12, group14}
+use Rattle.classifier.specs.Entry.{ea}
+use Rattle.classifier.specs.LowGroups.{group0, move, group5, group6, group7}
+use Rattle.classifier.specs.Group4.{group4}
+use Rattle.classifier.specs.HighGroups.{group8, addSub, group11, group12, group14}
 use Rattle.classifier.specs.Classify.{classifyOf}
 use Rattle.masks.specs.Registers.{maskOfRegs}
 use Rattle.masks.specs.GroupFour.{group4Sets}

@@ -1,6 +1,7 @@
--- The tender's demands and document 01's facts, as statements about the definitions of the crates below.
+-- The tender's demands and the facts of documents 01 and 02, as statements about the definitions of the crates below.
 --
 --   Opcodes      ==  what holds of every opcode's class word
+--   Rules        ==  what holds of every rule of the proofreader's table and page
 --   Worked       ==  the worked instructions that are proved
 --   Retirements  ==  what holds of every retirement, break and clear
 --   Factors      ==  what can be told apart of one retirement, and that no more counts
@@ -12,6 +13,7 @@
 --   Determined   ==  one answer at each input
 --   ByHand       ==  that of the functions which are proved by a walk by hand
 pub mod Opcodes
+pub mod Rules
 pub mod Worked
 pub mod Retirements
 pub mod Factors

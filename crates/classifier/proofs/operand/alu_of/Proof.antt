@@ -1,0 +1,25 @@
+-- `alu_of`: DEFINES_CCR, or-ed with the operand's flags, is the entry's sum.
+-- Assumes nothing.
+use mathlib.Core.Path.{refl, _∙_}
+use native.Mathlib.Omega.{arith}
+use borrow.Author.Needs.{needs}
+use Rattle.bits.specs.Fields.{modeOf, regOf}
+use Rattle.class_word.specs.declared.OepClass.the-variants.{PoepSoep}
+use Rattle.classifier.specs.Entry.{ea}
+use Rattle.classifier.proofs.Flags.{entry-packed}
+use Rattle.classifier.proofs.operand.alu_of.Statement.{statement}
+use Rattle.classifier.proofs.operand.alu_of.Tie as tie
+
+operand-flags-requires : tie.Need-operand-flags-requires
+operand-flags-requires c κs = search needs
+
+new-requires : tie.Need-new-requires
+new-requires c κs = search needs
+
+returns : tie.Need-returns
+returns c =
+    let a = c .before .before .args in
+    c .new .ensures ∙ entry-packed PoepSoep 1 1024 (omega arith) refl refl (ea (modeOf (a .op)) (regOf (a .op)) (a .read) (a .write)) (c .before .operand-flags .ensures)
+
+pub alu-of-spec : {M : Type 1} → statement M
+alu-of-spec = tie.close (tie.spec operand-flags-requires new-requires returns)

@@ -1,0 +1,4 @@
+pub mod Parts
+pub mod Listed
+pub mod Going
+pub mod Lengths

@@ -1,0 +1,49 @@
+-- `put_name`: each rule's line begins with its name, by a test computed at every rule.
+-- Assumes nothing.
+use Prim.Native.Nat.{ℕ}
+use mathlib.Core.Path.{_≡_, refl, ap, _∙_}
+use mathlib.Core.Bool.{true}
+use mathlib.Core.List.{List}
+use lib.ListN.{drop}
+use borrow.Author.Needs.{needs}
+use Rattle.bits.specs.Below.{everyBelow}
+use Rattle.bits.proofs.LaidOut.{laidOut}
+use Rattle.text.specs.Written.{textOf}
+use Rattle.classifier.specs.Rules.{ruleCount, rules, nameOf}
+use Rattle.rule_text.specs.Inner.{upTo, behindOf, linesAfter}
+use Rattle.rule_text.proofs.Listed.{same, listed}
+use Rattle.rule_text.proofs.names.put_name.Statement.{statement}
+use Rattle.rule_text.proofs.names.put_name.Tie as tie
+use Rattle.rule_text.proofs.names.put_name.Code.Mir as code
+
+-- the text, as the function's first statement lays it out
+abbrev words : List ℕ
+words = laidOut code.s-1
+
+tested : everyBelow ruleCount (λ n. same (upTo 58 (linesAfter n words)) (textOf (nameOf n))) ≡ true
+unfolding upTo behindOf linesAfter rules
+tested = refl
+
+named : (d : tie.After-line-at) → let s = d .before .before .before in upTo 58 (drop (d .line-at .result) words) ≡ textOf (nameOf (s .args .rule))
+named d =
+    let s = d .before .before .before in
+    ap (upTo 58) (d .line-at .ensures .1) ∙ listed (λ n. upTo 58 (linesAfter n words)) (λ n. textOf (nameOf n)) ruleCount tested (s .args .rule) (s .pre .0)
+
+put-until-requires : tie.Need-put-until-requires
+put-until-requires c κs =
+    let d = c .before .before in
+    (d .line-at .ensures .0, rw (named d) (d .before .before .before .pre .1))
+
+returns : tie.Need-returns
+returns c = rw (← named (c .before .before .before .before .before)) (c .before .before .put-until .ensures)
+
+pub put-name-spec : {M : Type 1} → statement M
+put-name-spec =
+    tie.close
+    (tie.spec
+    (λ c. search needs)
+    (λ c κs. search needs)
+    (λ c. search needs)
+    put-until-requires
+    (λ c. search needs)
+    returns)
