@@ -3,7 +3,8 @@
 # change.
 # A line each, split by tabs: CRATE QUOTA FILE LINE COLUMN FUNCTION OLD NEW TEXT (the line once changed). A crate's
 # lines come in the seed's order; the first QUOTA of them are its sample, and the others stand in for those that the
-# compiler refuses.
+# compiler refuses. Of a table, one entry in 16, by the seed, counts as a line of code and is drawn like any other; the
+# rest of it comes last, or a sample would have little else.
 BEGIN {
     FS = "\n"
     split("== != <= < >= > + - * / % & | && || << >> += -=", word, " ")
@@ -13,7 +14,10 @@ BEGIN {
 }
 
 function braces(s) { return gsub(/\{/, "{", s) - gsub(/\}/, "}", s) }
-function belongs(name, group) { member[group, ++size[group]] = name; places[name] = places[name] "\t" group }
+function belongs(name, group) {
+    if ((group, name) in known) return # two modules may have a constant of the same name
+    known[group, name]; member[group, ++size[group]] = name; places[name] = places[name] "\t" group
+}
 # What may stand for a name: the next of its group.
 function sibling(name,    n, k, g, i) {
     n = split(places[name], g, "\t")
@@ -26,7 +30,7 @@ function sibling(name,    n, k, g, i) {
 function change(col, old, new,    text) {
     text = substr($0, 1, col - 1) new substr($0, col + length(old))
     sub(/^ +/, "", text)
-    found[crate, ++candidates[crate]] = FILENAME "\t" FNR "\t" col "\t" fn "\t" old "\t" new "\t" text
+    found[crate late, ++candidates[crate late]] = FILENAME "\t" FNR "\t" col "\t" fn "\t" old "\t" new "\t" text
 }
 
 function plus_one(n,    v, k) {
@@ -60,7 +64,7 @@ function scan(s, i,    n, k, c, before, rest, w, alt) {
     }
 }
 
-FNR == 1 { crate = FILENAME; sub(/^crates\//, "", crate); sub(/\/.*/, "", crate); sig = contract = decl = 0; fn = "-" }
+FNR == 1 { crate = FILENAME; sub(/^crates\//, "", crate); sub(/\/.*/, "", crate); sig = contract = decl = table = 0; fn = "-" }
 { t = $0; sub(/^ +/, "", t) }
 t == "" || t ~ /^(\/\/|(pub )?(use|mod|type) |ghost use |#\[)/ { next }
 
@@ -85,7 +89,9 @@ contract > 0 || (sig && t ~ /^(requires|ensures) \{/) { contract += braces(t); n
 decl > 0 || t ~ /^(pub )?(struct|enum) / { decl += braces(t); next }
 match(t, /^(pub )?(extern "C" )?fn [A-Za-z0-9_]+/) { fn = substr(t, 1, RLENGTH); sub(/.* /, "", fn); sig = 1 }
 sig { if (t ~ /\{$/) sig = 0; next }
-t ~ /^[][{}(),;]+$/ { next }
+t ~ /^[][{}(),;]+$/ { table = 0; next }
+table && (FNR + seed) % 16 { late = " late"; scan($0, 1); late = ""; next }
+t ~ /^(pub )?const .*\[$/ { table = 1 }
 t ~ /^(pub )?const / { fn = t; sub(/^(pub )?const /, "", fn); sub(/:.*/, "", fn); lines[crate]++; scan($0, index($0, " = ")); next }
 {
     lines[crate]++
@@ -105,7 +111,8 @@ END {
         for (i = candidates[c]; i > 1; i--) { j = random(i); x = found[c, i]; found[c, i] = found[c, j]; found[c, j] = x }
         quota = int(count * lines[c] / all + 0.5)
         if (quota < 2) quota = 2
-        if (quota > candidates[c]) quota = candidates[c]
+        if (quota > candidates[c] + candidates[c " late"]) quota = candidates[c] + candidates[c " late"]
         for (i = 1; i <= candidates[c]; i++) print c "\t" quota "\t" found[c, i]
+        for (i = 1; i <= candidates[c " late"]; i++) print c "\t" quota "\t" found[c " late", i]
     }
 }

@@ -1,6 +1,7 @@
 //! The Rust module itself, asked from the command line.
 //!
 //! oracle all_opcodes   OPCODE WORD USE DEF of all 65,536 opcodes, a line each, in upper-case hex
+//! oracle rule_page DEFINITION         the page of the rules, whose names are read from the file DEFINITION
 //! oracle worked        the worked instructions of document 01 that are run: the fallback, and RTS that flowed
 //! oracle cases_input, oracle cases    the cases that the gate replays, and what the port must answer
 //! oracle lister_limit                 what the lister must print of 65,536 and of 65,537 bytes of breaks
@@ -14,6 +15,7 @@
 mod differential;
 mod format;
 mod listing;
+mod page;
 mod core060 {
     pub mod cpu;
     pub mod timing_060;
@@ -21,18 +23,29 @@ mod core060 {
 
 use core060::cpu::CpuCore;
 use core060::timing_060::{classify_060_opcode, info_060, reg_masks_060};
-use std::io::{BufWriter, Read, Result, Write};
+use std::io::{BufWriter, Error, Read, Result, Write};
 
 const RTS: u32 = 0x4E75;
 
+fn class_word(op: u16) -> u16 {
+    let word = classify_060_opcode(op).0;
+    assert_eq!(word, info_060(op).0);
+    word
+}
+
 fn all_opcodes(out: &mut impl Write) -> Result<()> {
     for op in 0..=0xFFFFu16 {
-        let word = classify_060_opcode(op).0;
-        assert_eq!(word, info_060(op).0);
+        let word = class_word(op);
         let (uses, defs) = reg_masks_060(op);
         writeln!(out, "{op:04X} {word:04X} {uses:04X} {defs:04X}")?;
     }
     Ok(())
+}
+
+// Nothing is written unless all of the page is right.
+fn rule_page(definition: &str, out: &mut impl Write) -> Result<()> {
+    let text = std::fs::read_to_string(definition).map_err(|why| Error::other(format!("{definition}: {why}")))?;
+    out.write_all(page::rule_page(&text).map_err(Error::other)?.as_bytes())
 }
 
 // One retirement of RTS from a fresh state, its fetch not cached.
@@ -83,6 +96,7 @@ fn main() {
     let mut out = BufWriter::new(std::io::stdout().lock());
     let done = match asked.as_deref() {
         Some("all_opcodes") => all_opcodes(&mut out),
+        Some("rule_page") if words.len() == 2 => rule_page(&words[1], &mut out),
         Some("worked") => worked(&mut out),
         Some("cases_input") => out.write_all(&differential::input(&differential::sample())),
         Some("cases") => out.write_all(differential::expected(&differential::sample()).as_bytes()),
@@ -94,7 +108,7 @@ fn main() {
         Some("random_trace") if words.len() == 2 => out.write_all(&differential::random_trace(words[1].parse().unwrap_or(0))),
         Some("examples") if words.len() == 2 => listing::examples(std::path::Path::new(&words[1])),
         _ => {
-            eprintln!("usage: oracle all_opcodes | worked | cases_input | cases | lister_limit | cost_lister | replay | show_trace | show_trace_input | random_trace SEED | examples DIR | differential SEED SCALE RUNNER..");
+            eprintln!("usage: oracle all_opcodes | rule_page DEFINITION | worked | cases_input | cases | lister_limit | cost_lister | replay | show_trace | show_trace_input | random_trace SEED | examples DIR | differential SEED SCALE RUNNER..");
             std::process::exit(2);
         }
     };
