@@ -77,7 +77,7 @@ static const struct {
     {"break", break_pipeline, 256},
     {"clear_all", clear_all, 256},
     {"clear_user", clear_user, 256},
-    {"class_word", class_word, 256},
+    {"class_word", class_word, 1536},
     {"masks_of", masks_of, 256},
     {"run_batch", run_batch, 512},
     {"image_write", image_write, 1536},
