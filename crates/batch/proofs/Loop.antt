@@ -17,14 +17,12 @@ use denote.Laws.{Is}
 use denote.Struct.Laws as LL
 use mir.Val.{Val}
 use Rattle.state.specs.declared.Retirement.{Retirement}
-use Rattle.state.specs.declared.Oep060Timing.{Oep060Timing}
 use Rattle.state.specs.declared.Stepped.{Stepped}
 use Rattle.state.specs.Events.{total as sum}
-use Rattle.state.specs.Timing.{seenOf}
-use Rattle.step.specs.CrateBoard.{steppedOf}
+use Rattle.batch.specs.declared.Chosen.{Chosen}
 use Rattle.batch.specs.declared.Carried.{Carried}
-use Rattle.batch.specs.Turning.{beginOf, Reached, reached, payOf}
-use Rattle.batch.proofs.Run.{endOf, paidOf, end-none, paid-none, end-first, paid-first}
+use Rattle.batch.specs.Turning.{seenChosen, beginOf, Reached, reached, payOf}
+use Rattle.batch.proofs.Run.{endOf, paidOf, stepOf, past, end-none, paid-none, end-first, paid-first}
 use Rattle.batch.proofs.Carried as C
 use Rattle.batch.proofs.Carried.Laws as C′
 
@@ -35,16 +33,16 @@ none = record { op = 0; controls = record { flowed = false; cached = false; ess 
 abbrev pub cvals : Carried → List Val
 cvals = LL.vals C.the-type C′.the-laws
 
-pub record Now (m : ℕ) (rs : List Retirement) (s : Oep060Timing) (ps : List ℕ) : Type 0 where
+pub record Now (m : ℕ) (rs : List Retirement) (s : Chosen) (ps : List ℕ) : Type 0 where
   pub i : ℕ
   pub c : Carried
   pub cs : List ℕ
   pub bound : i ≤ m
   pub len : length cs ≡ length ps
-  pub after : endOf (c .timing) (drop i (take m rs)) ≡ endOf s (take m rs)
-  pub cost : take i cs ++ paidOf (c .timing) (drop i (take m rs)) ≡ paidOf s (take m rs)
-  pub total : c .total + sum (paidOf (c .timing) (drop i (take m rs))) ≡ sum (paidOf s (take m rs))
-  pub past : drop m cs ≡ drop m ps
+  pub after : endOf (c .chosen) (drop i (take m rs)) ≡ endOf s (take m rs)
+  pub cost : take i cs ++ paidOf (c .chosen) (drop i (take m rs)) ≡ paidOf s (take m rs)
+  pub total : c .total + sum (paidOf (c .chosen) (drop i (take m rs))) ≡ sum (paidOf s (take m rs))
+  pub beyond : drop m cs ≡ drop m ps
   pub small : c .total ≤ i * 4294967295
   pub is : Is C.the-row c (cvals c)
 
@@ -67,10 +65,10 @@ pub is-fewer : (n i : ℕ) → i < n → n - suc i < n - i
 is-fewer n i l = omega (arith, l)
 
 -- before the first record
-abbrev pub at-start : (m : ℕ) (rs : List Retirement) (t : Oep060Timing) (ps : List ℕ) → Is C.the-row (beginOf t) (cvals (beginOf t)) → Now m rs (seenOf t) ps
-at-start m rs t ps is = record { i = 0; c = beginOf t; cs = ps; bound = zero-le; len = refl; after = refl; cost = refl; total = from-none _; past = refl; small = zero-le; is = is }
+abbrev pub at-start : (m : ℕ) (rs : List Retirement) (t : Chosen) (ps : List ℕ) → Is C.the-row (beginOf t) (cvals (beginOf t)) → Now m rs (seenChosen t) ps
+at-start m rs t ps is = record { i = 0; c = beginOf t; cs = ps; bound = zero-le; len = refl; after = refl; cost = refl; total = from-none _; beyond = refl; small = zero-le; is = is }
 
-module _ (m : ℕ) (rs : List Retirement) (s : Oep060Timing) (ps : List ℕ) where
+module _ (m : ℕ) (rs : List Retirement) (s : Chosen) (ps : List ℕ) where
   abbrev left : Now m rs s ps → ℕ
   left t = m - t .i
 
@@ -81,18 +79,18 @@ module _ (m : ℕ) (rs : List Retirement) (s : Oep060Timing) (ps : List ℕ) whe
   fewer-wf = InvImage·wf left (Nat·lt-wfRel .wf)
 
   -- the state so far
-  abbrev pub so-far : Now m rs s ps → Oep060Timing
-  so-far t = t .c .timing
+  abbrev pub so-far : Now m rs s ps → Chosen
+  so-far t = t .c .chosen
 
   -- the record to run, its step, and what `pay` ensures of that
   abbrev pub rec : Now m rs s ps → Retirement
   rec t = getD rs (t .i) none
 
   abbrev pub step-at : Now m rs s ps → Stepped
-  step-at t = steppedOf (so-far t) (rec t)
+  step-at t = stepOf (so-far t) (rec t)
 
   abbrev pub Paid : Now m rs s ps → Stepped → Carried → List ℕ → Type 0
-  Paid t x c zs = (reached c zs ≡ payOf (t .cs) (t .i) (t .c .total) x) × (c .total ≤ (t .i + 1) * 4294967295)
+  Paid t x c zs = (reached c zs ≡ payOf (t .cs) (t .i) (t .c) x) × (c .total ≤ (t .i + 1) * 4294967295)
 
   module _ (here : m ≤ length rs) (fits : m ≤ length ps) where
     -- a record is there, and so is its cost's place
@@ -109,9 +107,9 @@ module _ (m : ℕ) (rs : List Retirement) (s : Oep060Timing) (ps : List ℕ) whe
         let r = rec t in
         let paid = step-at t .cost .0 in
         let rest = drop (suc (t .i)) (take m rs) in
-        let later = paidOf (step-at t .timing) rest in
-        let far = f .0 ∙ ap (λ (y : Stepped). payOf (t .cs) (t .i) (t .c .total) y) e in
-        let state = ap (λ (p : Reached). p .timing) far in
+        let later = paidOf (past (so-far t) (step-at t)) rest in
+        let far = f .0 ∙ ap (λ (y : Stepped). payOf (t .cs) (t .i) (t .c) y) e in
+        let state = ap (λ (p : Reached). p .chosen) far in
         let places = ap (λ (p : Reached). p .places) far in
         let back = sym (begins-with (t .i) l) in
         record {
@@ -120,15 +118,15 @@ module _ (m : ℕ) (rs : List Retirement) (s : Oep060Timing) (ps : List ℕ) whe
           cs = zs;
           bound = l;
           len = k ∙ t .len;
-          after = ap (λ (u : Oep060Timing). endOf u rest) state ∙ sym (end-first (so-far t) r rest) ∙ ap (λ (rs : List Retirement). endOf (so-far t) rs) back ∙ t .after;
-          cost = ap (λ (u : Oep060Timing). take (suc (t .i)) zs ++ paidOf u rest) state ∙ ap (λ (cs : List ℕ). take (suc (t .i)) cs ++ later) places
+          after = ap (λ (u : Chosen). endOf u rest) state ∙ sym (end-first (so-far t) r rest) ∙ ap (λ (rs : List Retirement). endOf (so-far t) rs) back ∙ t .after;
+          cost = ap (λ (u : Chosen). take (suc (t .i)) zs ++ paidOf u rest) state ∙ ap (λ (cs : List ℕ). take (suc (t .i)) cs ++ later) places
               ∙ ap (λ (cs : List ℕ). cs ++ later) (take-suc-set (t .cs) (t .i) paid (within t l)) ∙ append-snoc (take (t .i) (t .cs)) paid later
               ∙ ap (λ (cs : List ℕ). take (t .i) (t .cs) ++ cs) (sym (paid-first (so-far t) r rest))
               ∙ ap (λ (rs : List Retirement). take (t .i) (t .cs) ++ paidOf (so-far t) rs) back ∙ t .cost;
-          total = ap (λ (u : Oep060Timing). c .total + sum (paidOf u rest)) state ∙ ap (λ (n : ℕ). n + sum later) (ap (λ (p : Reached). p .total) far) ∙ regroup (t .c .total) paid (sum later)
+          total = ap (λ (u : Chosen). c .total + sum (paidOf u rest)) state ∙ ap (λ (n : ℕ). n + sum later) (ap (λ (p : Reached). p .total) far) ∙ regroup (t .c .total) paid (sum later)
               ∙ ap (λ (cs : List ℕ). t .c .total + sum cs) (sym (paid-first (so-far t) r rest))
               ∙ ap (λ (rs : List Retirement). t .c .total + sum (paidOf (so-far t) rs)) back ∙ t .total;
-          past = ap (λ (cs : List ℕ). drop m cs) places ∙ drop-set-lt m (t .cs) (t .i) paid l ∙ t .past;
+          beyond = ap (λ (cs : List ℕ). drop m cs) places ∙ drop-set-lt m (t .cs) (t .i) paid l ∙ t .beyond;
           small = subst (λ (j : ℕ). c .total ≤ j * 4294967295) (one-more (t .i)) (f .1);
           is = is;
         }
@@ -143,5 +141,5 @@ module _ (m : ℕ) (rs : List Retirement) (s : Oep060Timing) (ps : List ℕ) whe
           sym (nothing-added (t .c .total)) ∙ ap (λ (cs : List ℕ). t .c .total + sum cs) (sym none-paid) ∙ t .total,
           sym (take-append-drop m (t .cs))
               ∙ ap (λ (cs : List ℕ). cs ++ drop m (t .cs)) (ap (λ (j : ℕ). take j (t .cs)) (sym e) ∙ sym (append-nil (take (t .i) (t .cs))) ∙ ap (λ (cs : List ℕ). take (t .i) (t .cs) ++ cs) (sym none-paid) ∙ t .cost)
-              ∙ ap (λ (cs : List ℕ). paidOf s (take m rs) ++ cs) (t .past),
+              ∙ ap (λ (cs : List ℕ). paidOf s (take m rs) ++ cs) (t .beyond),
         )

@@ -6,6 +6,7 @@ use mathlib.Core.Bool.{Bool, true, false, not, cond, _&&_}
 use mathlib.Core.List.{List}
 use lib.Dec.{ltb}
 use lib.ListN.{length}
+use Rattle.profile.specs.declared.Profile.{Profile}
 use Rattle.state.specs.declared.Retirement.{Retirement}
 use Rattle.state.specs.declared.Oep060Timing.{Oep060Timing}
 use Rattle.refusals.specs.declared.Refusal.the-variants.{Oversized, Room}
@@ -15,14 +16,14 @@ use Rattle.batch.specs.Judge.{batchVerdictOf}
 use Rattle.batch.specs.Batch.{batchOutcomeBy, batchOf}
 use Rattle.refusals.specs.Given.{isAccepted, gives}
 
-module _ (rs : List Retirement) (ps : List ℕ) (t : Oep060Timing) where
-  verdict-is : (v : Verdict) → batchOutcomeBy v rs ps t .ran .verdict ≡ v
+module _ (P : Profile) (rs : List Retirement) (ps : List ℕ) (t : Oep060Timing) where
+  verdict-is : (v : Verdict) → batchOutcomeBy P v rs ps t .ran .verdict ≡ v
   verdict-is Accepted = refl
   verdict-is (Refused refusal) = refl
 
   -- what holds of each of the three verdicts, where the two tests come out so, holds of the batch's
   by-tests : (f : Verdict → Bool) (g : Bool → Bool → Bool) → ((short : Bool) → f (Refused Oversized) ≡ g true short) → f (Refused (Room 0)) ≡ g false true → f Accepted ≡ g false false
-      → f (batchOf rs ps t .ran .verdict) ≡ g (ltb 1048576 (length rs)) (ltb (length ps) (length rs))
+      → f (batchOf P rs ps t .ran .verdict) ≡ g (ltb 1048576 (length rs)) (ltb (length ps) (length rs))
   unfolding batchVerdictOf batchOf
   by-tests f g over short taken = ap f (verdict-is (batchVerdictOf (length rs) (length ps))) ∙ go (ltb 1048576 (length rs)) (ltb (length ps) (length rs))
     where
@@ -31,11 +32,11 @@ module _ (rs : List Retirement) (ps : List ℕ) (t : Oep060Timing) where
       go false true = short
       go false false = taken
 
-  pub batch-gives-1 : gives 1 0 (batchOf rs ps t .ran .verdict) ≡ ltb 1048576 (length rs)
+  pub batch-gives-1 : gives 1 0 (batchOf P rs ps t .ran .verdict) ≡ ltb 1048576 (length rs)
   batch-gives-1 = by-tests (gives 1 0) (λ over short. over) (λ short. refl) refl refl
 
-  pub batch-gives-7 : gives 7 0 (batchOf rs ps t .ran .verdict) ≡ (not (ltb 1048576 (length rs)) && ltb (length ps) (length rs))
+  pub batch-gives-7 : gives 7 0 (batchOf P rs ps t .ran .verdict) ≡ (not (ltb 1048576 (length rs)) && ltb (length ps) (length rs))
   batch-gives-7 = by-tests (gives 7 0) (λ over short. not over && short) (λ short. refl) refl refl
 
-  pub batch-accepts : isAccepted (batchOf rs ps t .ran .verdict) ≡ (not (ltb 1048576 (length rs)) && not (ltb (length ps) (length rs)))
+  pub batch-accepts : isAccepted (batchOf P rs ps t .ran .verdict) ≡ (not (ltb 1048576 (length rs)) && not (ltb (length ps) (length rs)))
   batch-accepts = by-tests isAccepted (λ over short. not over && not short) (λ short. refl) refl refl

@@ -9,37 +9,45 @@ use lib.ListN.{length, take, drop}
 use lib.Seq.{take-length}
 use lib.Dec.{T, ltb, nltb→le}
 use Rattle.state.specs.declared.Retirement.{Retirement}
-use Rattle.state.specs.declared.Oep060Timing.{Oep060Timing}
 use Rattle.state.specs.Events.{retirements, finally, costs, total}
-use Rattle.state.specs.Timing.{stateOf, timingOf, seenOf, steppedBy}
-use Rattle.step.specs.CrateBoard.{crateBoard, steppedOf}
+use Rattle.state.specs.Timing.{stateOf, timingOf, steppedBy}
+use Rattle.step.specs.Boards.{boardOf, steppedOf}
+use Rattle.state.specs.declared.Stepped.{Stepped}
 use Rattle.refusals.specs.declared.Verdict.{Verdict}
 use Rattle.refusals.specs.declared.Verdict.the-variants.{Accepted, Refused}
 use Rattle.refusals.specs.declared.Refusal.the-variants.{Oversized, Room}
+use Rattle.batch.specs.declared.Chosen.{Chosen}
 use Rattle.batch.specs.Judge.{batchVerdictOf}
 use Rattle.batch.specs.Batch.{batchOutcome, eventsOf, batchOutcomeBy}
-use Rattle.batch.specs.Turning.{runsBy}
+use Rattle.batch.specs.Turning.{runsBy, seenChosen}
 
--- the state after the records, and the cost of each
-abbrev pub endOf : Oep060Timing → List Retirement → Oep060Timing
-endOf t rs = timingOf (finally crateBoard (stateOf t) (eventsOf rs))
+-- the state after the records, with the profile, and the cost of each
+abbrev pub endOf : Chosen → List Retirement → Chosen
+endOf x rs = record { timing = timingOf (finally (boardOf (x .profile)) (stateOf (x .timing)) (eventsOf rs)); profile = x .profile }
 
-abbrev pub paidOf : Oep060Timing → List Retirement → List ℕ
-paidOf t rs = costs crateBoard (stateOf t) (eventsOf rs)
+abbrev pub paidOf : Chosen → List Retirement → List ℕ
+paidOf x rs = costs (boardOf (x .profile)) (stateOf (x .timing)) (eventsOf rs)
 
-pub end-none : (t : Oep060Timing) → endOf t [] ≡ t
+-- a step, and the state that it leaves, with the profile
+abbrev pub stepOf : Chosen → Retirement → Stepped
+stepOf x r = steppedOf (x .profile) (x .timing) r
+
+abbrev pub past : Chosen → Stepped → Chosen
+past x d = record { timing = d .timing; profile = x .profile }
+
+pub end-none : (t : Chosen) → endOf t [] ≡ t
 unfolding finally
 end-none t = refl
 
-pub paid-none : (t : Oep060Timing) → paidOf t [] ≡ []
+pub paid-none : (t : Chosen) → paidOf t [] ≡ []
 unfolding retirements
 paid-none t = refl
 
-pub end-first : (t : Oep060Timing) (r : Retirement) (rs : List Retirement) → endOf t (r ∷ rs) ≡ endOf (steppedOf t r .timing) rs
+pub end-first : (t : Chosen) (r : Retirement) (rs : List Retirement) → endOf t (r ∷ rs) ≡ endOf (past t (stepOf t r)) rs
 unfolding finally steppedBy
 end-first t r rs = refl
 
-pub paid-first : (t : Oep060Timing) (r : Retirement) (rs : List Retirement) → paidOf t (r ∷ rs) ≡ steppedOf t r .cost .0 ∷ paidOf (steppedOf t r .timing) rs
+pub paid-first : (t : Chosen) (r : Retirement) (rs : List Retirement) → paidOf t (r ∷ rs) ≡ stepOf t r .cost .0 ∷ paidOf (past t (stepOf t r)) rs
 unfolding retirements steppedBy
 paid-first t r rs = refl
 
@@ -54,8 +62,8 @@ unfolding batchVerdictOf
 runs-within n k = runs-by n k (ltb 1048576 n) (ltb k n) refl refl
 
 -- what the records that are run come to is what the definition says, refused or not
-pub ends-by : (v : Verdict) (rs : List Retirement) (ps : List ℕ) (t : Oep060Timing) → let go = take (runsBy v (length rs)) rs in
-    batchOutcome (record { verdict = v; count = runsBy v (length rs); total = total (paidOf (seenOf t) go); timing = endOf (seenOf t) go }) (paidOf (seenOf t) go ++ drop (runsBy v (length rs)) ps) ≡ batchOutcomeBy v rs ps t
+pub ends-by : (v : Verdict) (rs : List Retirement) (ps : List ℕ) (t : Chosen) → let go = take (runsBy v (length rs)) rs in
+    batchOutcome (record { verdict = v; count = runsBy v (length rs); total = total (paidOf (seenChosen t) go); timing = endOf (seenChosen t) go .timing }) (paidOf (seenChosen t) go ++ drop (runsBy v (length rs)) ps) ≡ batchOutcomeBy (t .profile) v rs ps (t .timing)
 unfolding finally retirements
-ends-by Accepted rs ps t = ap (λ (go : List Retirement). batchOutcome (record { verdict = Accepted; count = length rs; total = total (paidOf (seenOf t) go); timing = endOf (seenOf t) go }) (paidOf (seenOf t) go ++ drop (length rs) ps)) (take-length rs)
+ends-by Accepted rs ps t = ap (λ (go : List Retirement). batchOutcome (record { verdict = Accepted; count = length rs; total = total (paidOf (seenChosen t) go); timing = endOf (seenChosen t) go .timing }) (paidOf (seenChosen t) go ++ drop (length rs) ps)) (take-length rs)
 ends-by (Refused refusal) rs ps t = refl

@@ -1,23 +1,25 @@
 -- Document 01, "Records and images": the batch. The Rust has none.
 --
---   BatchOutcome             ==  what is returned, and every lent place afterwards
---   batchOutcome ran ps      ==  the outcome of these two
---   eventsOf rs              ==  the records as events: each a retirement
---   batchAcceptedOf rs ps t  ==  the records rs run from the state t, as it is read, with the lent places ps
---                                "does the same into 32-bit places"; "Places beyond the last cost stay"
---   batchOutcomeBy v         ==  by the verdict: run; or refused
---                                "A refused run or batch returns count 0, total 0 and the state it was given, and
---                                writes no byte"
---   batchOf rs ps t          ==  the batch of the records rs with the lent places ps from the state t
+-- In each, p is the profile that is chosen at start.
+--   BatchOutcome               ==  what is returned, and every lent place afterwards
+--   batchOutcome ran ps        ==  the outcome of these two
+--   eventsOf rs                ==  the records as events: each a retirement
+--   batchAcceptedOf p rs ps t  ==  the records rs run from the state t, as it is read, with the lent places ps
+--                                  "does the same into 32-bit places"; "Places beyond the last cost stay"
+--   batchOutcomeBy p v         ==  by the verdict: run; or refused
+--                                  "A refused run or batch returns count 0, total 0 and the state it was given, and
+--                                  writes no byte"
+--   batchOf p rs ps t          ==  the batch of the records rs with the lent places ps from the state t
 use Prim.Native.Nat.{ℕ}
 use mathlib.Core.List.{List, map, _++_}
 use lib.ListN.{length, drop}
+use Rattle.profile.specs.declared.Profile.{Profile}
 use Rattle.state.specs.declared.Retirement.{Retirement}
 use Rattle.state.specs.declared.Event.{Event}
 use Rattle.state.specs.declared.Event.the-variants.{Retired}
 use Rattle.state.specs.declared.Oep060Timing.{Oep060Timing}
 use Rattle.state.specs.Events.{costs, finally, total}
-use Rattle.step.specs.CrateBoard.{crateBoard}
+use Rattle.step.specs.Boards.{boardOf}
 use Rattle.state.specs.Timing.{stateOf, timingOf, seenOf}
 use Rattle.refusals.specs.declared.Verdict.{Verdict}
 use Rattle.refusals.specs.declared.Verdict.the-variants.{Accepted, Refused}
@@ -35,22 +37,22 @@ batchOutcome ran ps = record { ran = ran; places = ps }
 abbrev pub eventsOf : List Retirement → List Event
 eventsOf rs = map Retired rs
 
-abbrev pub batchAcceptedOf : List Retirement → List ℕ → Oep060Timing → BatchOutcome
-batchAcceptedOf rs ps t =
+abbrev pub batchAcceptedOf : Profile → List Retirement → List ℕ → Oep060Timing → BatchOutcome
+batchAcceptedOf p rs ps t =
     let s = stateOf (seenOf t) in
-    let paid = costs crateBoard s (eventsOf rs) in
+    let paid = costs (boardOf p) s (eventsOf rs) in
     batchOutcome
     (record {
       verdict = Accepted;
       count = length rs;
       total = total paid;
-      timing = timingOf (finally crateBoard s (eventsOf rs));
+      timing = timingOf (finally (boardOf p) s (eventsOf rs));
     })
     (paid ++ drop (length rs) ps)
 
-abbrev pub batchOutcomeBy : Verdict → List Retirement → List ℕ → Oep060Timing → BatchOutcome
-batchOutcomeBy Accepted rs ps t = batchAcceptedOf rs ps t
-batchOutcomeBy (Refused refusal) rs ps t = batchOutcome (refusedOf refusal t) ps
+abbrev pub batchOutcomeBy : Profile → Verdict → List Retirement → List ℕ → Oep060Timing → BatchOutcome
+batchOutcomeBy p Accepted rs ps t = batchAcceptedOf p rs ps t
+batchOutcomeBy p (Refused refusal) rs ps t = batchOutcome (refusedOf refusal t) ps
 
-unfoldable pub batchOf : List Retirement → List ℕ → Oep060Timing → BatchOutcome
-batchOf rs ps t = batchOutcomeBy (batchVerdictOf (length rs) (length ps)) rs ps t
+unfoldable pub batchOf : Profile → List Retirement → List ℕ → Oep060Timing → BatchOutcome
+batchOf p rs ps t = batchOutcomeBy p (batchVerdictOf (length rs) (length ps)) rs ps t

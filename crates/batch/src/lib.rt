@@ -1,13 +1,16 @@
 // Part 6 of document 01: the batch, a lent run of retirement records, its costs into lent 32-bit places.
 //
 // `run_batch` judges first, since a refused batch writes no place; then each record is copied out, handed to the step
-// by value (`step`), and paid. `host` judges by `batch_verdict` too, and runs a batch of words in place.
+// by value (`step`), and paid. The state and the profile come, and are carried, as one (`Chosen`). `host` judges by
+// `batch_verdict` too, and runs a batch of words in place.
 ghost use mathlib.Core.Path.{_≡_};
 ghost use Prim.Native.Nat.{_+_, _*_, _<_, _≤_, min};
 ghost use lib.ListN.{length, take};
 ghost use Rattle.batch.specs.Judge.{batchVerdictOf};
 ghost use Rattle.batch.specs.Batch.{batchOutcome, batchOf};
+ghost use Rattle.step.specs.Boards.{steppedOf};
 ghost use Rattle.batch.specs.Turning.{judgedBatchOf, beginOf, reached, payOf, finishOf};
+use profile::Profile;
 use refusals::Ran;
 use refusals::Refusal;
 use refusals::Verdict;
@@ -25,9 +28,15 @@ struct Judged {
     verdict: Verdict,
 }
 
+// A state, and the profile that is chosen at start: one struct, since a walk by hand counts what a function is handed.
+pub struct Chosen {
+    pub timing: Oep060Timing,
+    pub profile: Profile,
+}
+
 // What the loop carries from record to record.
 struct Carried {
-    timing: Oep060Timing,
+    chosen: Chosen,
     total: u64,
 }
 
@@ -58,32 +67,46 @@ fn judge_batch(records: usize, places: usize) -> Judged
 }
 
 // Before the first record: the state as it is read.
-fn begin(timing: Oep060Timing) -> Carried
-    ensures { λ x. ⌜ x ≡ beginOf timing ⌝ }
+fn begin(chosen: Chosen) -> Carried
+    ensures { λ x. ⌜ x ≡ beginOf chosen ⌝ }
 {
-    let timing = timing.seen();
-    Carried { timing, total: 0 }
+    let given = chosen.timing;
+    let timing = given.seen();
+    let profile = chosen.profile;
+    let chosen = Chosen { timing, profile };
+    Carried { chosen, total: 0 }
+}
+
+// The step by value, of what is carried.
+fn step_chosen(chosen: Chosen, r: Retirement) -> Stepped
+    ensures { λ x. ⌜ x ≡ steppedOf (chosen .profile) (chosen .timing) r ⌝ }
+{
+    let profile = chosen.profile;
+    cycles_060(chosen.timing, profile, r)
 }
 
 // One record's cost is stored. Up to 1,048,576 costs below 2^32 cannot wrap the total.
 fn pay(costs: &mut [u32], i: usize, carried: Carried, stepped: Stepped) -> Carried
     // There is a place for it and few came before: only `run_batch` calls this, after `judge_batch`.
     requires { ⌜ (i < length (now costs)) × (i < 1048576) × (carried .total ≤ i * 4294967295) ⌝ }
-    ensures { λ x. ⌜ (reached x (now (costs .exit)) ≡ payOf (now (costs .entry)) i (carried .total) stepped)
+    ensures { λ x. ⌜ (reached x (now (costs .exit)) ≡ payOf (now (costs .entry)) i carried stepped)
         × (x .total ≤ (i + 1) * 4294967295) ⌝ }
 {
     let timing = stepped.timing;
     let cost = stepped.cost.0;
     let total = carried.total + (cost as u64);
     costs[i] = cost;
-    Carried { timing, total }
+    let before = carried.chosen;
+    let profile = before.profile;
+    let chosen = Chosen { timing, profile };
+    Carried { chosen, total }
 }
 
 // After the last record.
 fn finish(carried: Carried, judged: Judged) -> Ran
     ensures { λ x. ⌜ x ≡ finishOf carried judged ⌝ }
 {
-    let timing = carried.timing;
+    let timing = carried.chosen.timing;
     let verdict = judged.verdict;
     Ran {
         verdict,
@@ -94,16 +117,17 @@ fn finish(carried: Carried, judged: Judged) -> Ran
 }
 
 // The batch: each record is copied out of the lent run and handed to the step. A walk by hand.
-pub fn run_batch(rs: &[Retirement], costs: &mut [u32], timing: Oep060Timing) -> Ran
-    ensures { λ x. ⌜ batchOutcome x (now (costs .exit)) ≡ batchOf (now (rs .entry)) (now (costs .entry)) timing ⌝ }
+pub fn run_batch(rs: &[Retirement], costs: &mut [u32], chosen: Chosen) -> Ran
+    ensures { λ x. ⌜ batchOutcome x (now (costs .exit))
+        ≡ batchOf (chosen .profile) (now (rs .entry)) (now (costs .entry)) (chosen .timing) ⌝ }
 {
     let judged = judge_batch(rs.len(), costs.len());
     let run = judged.run;
-    let mut carried = begin(timing);
+    let mut carried = begin(chosen);
     let mut i = 0;
     while i < run {
         let r = rs[i];
-        let stepped = cycles_060(carried.timing, r);
+        let stepped = step_chosen(carried.chosen, r);
         carried = pay(costs, i, carried, stepped);
         i = i + 1;
     }
@@ -120,14 +144,10 @@ fn least(n: usize, most: usize) -> usize
 }
 
 // The batch for a caller with no lent run: the first n of 64 records, or all. A walk by hand.
-pub fn run_batch_of_64(
-    rs: [Retirement; 64],
-    n: usize,
-    costs: &mut [u32],
-    timing: Oep060Timing,
-) -> Ran
-    ensures { λ x. ⌜ batchOutcome x (now (costs .exit)) ≡ batchOf (take n rs) (now (costs .entry)) timing ⌝ }
+pub fn run_batch_of_64(rs: [Retirement; 64], n: usize, costs: &mut [u32], chosen: Chosen) -> Ran
+    ensures { λ x. ⌜ batchOutcome x (now (costs .exit))
+        ≡ batchOf (chosen .profile) (take n rs) (now (costs .entry)) (chosen .timing) ⌝ }
 {
     let m = least(n, 64);
-    run_batch(&rs[..m], costs, timing)
+    run_batch(&rs[..m], costs, chosen)
 }

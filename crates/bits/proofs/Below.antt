@@ -1,9 +1,9 @@
 -- A test that passes over all numbers below a bound passes at each of them, and the other way round; and the first number that passes is the one before which none does.
 -- Assumes nothing.
-use mathlib.Core.Path.{_≡_, refl, ap, _∙_}
+use mathlib.Core.Path.{_≡_, refl, sym, ap, _∙_}
 use mathlib.Core.Logic.{⊎-elim}
 use mathlib.Core.Bool.{Bool, true, false, cond}
-use Prim.Native.Nat.{ℕ, zero, suc, _+_, _<_, _≤_}
+use Prim.Native.Nat.{ℕ, zero, suc, _+_, _-_, _<_, _≤_}
 use native.Mathlib.Nat.{not-suc-le-zero, eq-or-lt-of-le}
 use native.Mathlib.Omega.{arith}
 use Rattle.bits.specs.Below.{everyBelow, firstFrom, firstBelow}
@@ -14,6 +14,12 @@ each-below zero test t k h = absurd (not-suc-le-zero h)
 each-below (suc n) test t k h =
     ⊎-elim (λ (e : k ≡ n). ap test e ∙ and-right (everyBelow n test) (test n) t)
     (λ (l : k < n). each-below n test (and-left (everyBelow n test) (test n) t) k l) (eq-or-lt-of-le (omega arith))
+
+-- the same of the numbers from a first one on
+pub each-between : (base n : ℕ) (test : ℕ → Bool) → everyBelow n (λ k. test (base + k)) ≡ true → (x : ℕ) → base ≤ x → x < base + n → test x ≡ true
+each-between base n test t x l h =
+    let at : base + (x - base) ≡ x = omega arith in
+    sym (ap test at) ∙ each-below n (λ k. test (base + k)) t (x - base) (omega arith)
 
 pub every-below : (n : ℕ) (test : ℕ → Bool) → ((k : ℕ) → k < n → test k ≡ true) → everyBelow n test ≡ true
 every-below zero test h = refl

@@ -1,7 +1,7 @@
 -- Rows tried in order: a test that fails goes on to the next row, one that holds gives the answer; what every row has, the first that holds has.
 -- Assumes nothing.
 use mathlib.Core.Path.{_≡_, refl, sym, _∙_, ap}
-use mathlib.Core.Bool.{Bool, true, false, cond, _&&_}
+use mathlib.Core.Bool.{Bool, true, false, cond}
 use Rattle.bits.specs.Rows.{Rows, otherwise, _⇒_⨾_, first, everyRow}
 use Rattle.bits.proofs.Bools.{and-left, and-right}
 
@@ -27,4 +27,17 @@ first-has p (t ⇒ a ⨾ rows) e = go t (first-has p rows (and-right (p a) (ever
   where
     go : (u : Bool) → p (first rows) ≡ true → p (cond u a (first rows)) ≡ true
     go true k = and-left (p a) (everyRow p rows) e
+    go false k = k
+
+-- what is taken of the first row's answer is the first row's answer of what is taken of each
+abbrev pub mapRows : {A B : Type 0} → (A → B) → Rows A → Rows B
+mapRows f (otherwise a) = otherwise (f a)
+mapRows f (t ⇒ a ⨾ rows) = t ⇒ f a ⨾ mapRows f rows
+
+pub first-map : {A B : Type 0} (f : A → B) (rows : Rows A) → f (first rows) ≡ first (mapRows f rows)
+first-map f (otherwise a) = refl
+first-map f (t ⇒ a ⨾ rows) = go t (first-map f rows)
+  where
+    go : (u : Bool) → f (first rows) ≡ first (mapRows f rows) → f (cond u a (first rows)) ≡ cond u (f a) (first (mapRows f rows))
+    go true k = refl
     go false k = k

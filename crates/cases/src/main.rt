@@ -8,6 +8,7 @@ ghost use mathlib.Core.Path.{_≡_};
 ghost use mathlib.Core.Bool.{true};
 ghost use Prim.Native.Nat.{_+_, _*_, _≤_};
 ghost use lib.ListN.{length};
+use batch::Chosen;
 use host::HostRan;
 use libc::STDIN_FILENO;
 use libc::STDOUT_FILENO;
@@ -274,50 +275,71 @@ fn records_of(bytes: &[u8]) -> [Retirement; 64] {
 }
 
 // The records as a lent run of structs.
-fn run_slice(bytes: &[u8], places: &mut [u32], timing: Oep060Timing) -> Ran {
-    batch::run_batch_of_64(records_of(bytes), bytes.len() / 16, places, timing)
+fn run_slice(bytes: &[u8], places: &mut [u32], timing: Oep060Timing, number: u32) -> Ran {
+    let profile = profile::profile_at(number);
+    let chosen = Chosen { timing, profile };
+    batch::run_batch_of_64(records_of(bytes), bytes.len() / 16, places, chosen)
 }
 
 // A batch of words, as a host lends it.
-fn run_words(words: &[u32], places: &mut [u32], timing: Oep060Timing) -> Done {
+fn run_words(words: &[u32], places: &mut [u32], timing: Oep060Timing, number: u32) -> Done {
     let mut tags = timing.cache.tags;
     let mut state = timing.cache.state;
     let mut window = [0; in_place::WINDOW_NUMBERS];
     in_place::put_window(&mut window, timing.window);
-    let ran = host::timing_060_run_batch_at(words, places, &mut tags, &mut state, &mut window);
+    let ran = host::timing_060_run_batch_at(
+        words,
+        places,
+        &mut tags,
+        &mut state,
+        &mut window,
+        number,
+    );
     let mut image = [0u8; 1288];
     host::timing_060_image_write_at(&tags, &state, &window, &mut image);
     Done { ran, image }
 }
 
 // A batch of at most 64 structs, or of words.
-fn run_records(what: u8, bytes: &[u8], places: &mut [u32], timing: Oep060Timing) -> Done {
+fn run_records(
+    what: u8,
+    bytes: &[u8],
+    places: &mut [u32],
+    timing: Oep060Timing,
+    number: u32,
+) -> Done {
     if what == 5 {
-        return settle(run_slice(bytes, places, timing));
+        return settle(run_slice(bytes, places, timing, number));
     }
     let words = words_of(bytes);
     let n = words.count;
     let all = words.all;
-    run_words(&all[..n], places, timing)
+    run_words(&all[..n], places, timing, number)
 }
 
 // A batch: what is lent, as words.
-fn run_batch(what: u8, bytes: &[u8], lent: &mut [u8], timing: Oep060Timing) -> Done {
+fn run_batch(what: u8, bytes: &[u8], lent: &mut [u8], timing: Oep060Timing, number: u32) -> Done {
     let words = words_of(lent);
     let n = words.count;
     let mut all = words.all;
-    let done = run_records(what, bytes, &mut all[..n], timing);
+    let done = run_records(what, bytes, &mut all[..n], timing, number);
     put_words(all, lent);
     done
 }
 
-fn run(what: u8, bytes: &[u8], lent: &mut [u8], timing: Oep060Timing) -> Done {
+// A trace run in the profile of a number.
+fn run_trace(bytes: &[u8], lent: &mut [u8], timing: Oep060Timing, number: u32) -> Ran {
+    let profile = profile::profile_at(number);
+    trace::run_trace(bytes, lent, timing, profile)
+}
+
+fn run(what: u8, bytes: &[u8], lent: &mut [u8], timing: Oep060Timing, number: u32) -> Done {
     match what {
-        1 => settle(trace::run_trace(bytes, lent, timing)),
+        1 => settle(run_trace(bytes, lent, timing, number)),
         2 => settle(read_image(bytes)),
         3 => settle(write_image(lent, timing)),
         6 => settle(run_break(timing)),
-        _ => run_batch(what, bytes, lent, timing),
+        _ => run_batch(what, bytes, lent, timing, number),
     }
 }
 
@@ -338,20 +360,20 @@ fn print_line(what: u8, done: Done, lent: &[u8]) {
 }
 
 // One case, on what it gives and lends.
-fn answer(what: u8, bytes: &[u8], lent: &mut [u8], timing: Oep060Timing) {
+fn answer(what: u8, bytes: &[u8], lent: &mut [u8], timing: Oep060Timing, number: u32) {
     fill(lent);
-    let done = run(what, bytes, lent, timing);
+    let done = run(what, bytes, lent, timing, number);
     print_line(what, done, lent);
 }
 
 // One case, with a buffer for what it lends, and a word of its own if one of the 16 bytes beyond the room, which hold
 // zeros, was written.
-fn lend(what: u8, room: usize, bytes: &[u8], timing: Oep060Timing)
+fn lend(what: u8, room: usize, bytes: &[u8], timing: Oep060Timing, number: u32)
     requires { ⌜ room ≤ 65535 ⌝ }
 {
     let mut buffer = io::large_buffer();
     let lent: &mut [u8] = &mut buffer;
-    answer(what, bytes, &mut lent[..room], timing);
+    answer(what, bytes, &mut lent[..room], timing, number);
     if !zeros(lent, room, room + 16) {
         io::write_all(STDOUT_FILENO, b"spilled\n");
     }
@@ -374,8 +396,10 @@ fn split(h: &[u8], given: usize, rest: &[u8])
 {
     let what = h[0];
     let room = room_of(what, little_endian::u16_at(h, 2));
-    let timing = start(&rest[..given], h[1] != 0);
-    lend(what, room, &rest[given..], timing);
+    // Bit 0 says that the state is dirty; the rest is the number of the profile.
+    let timing = start(&rest[..given], h[1] % 2 == 1);
+    let number = (h[1] / 2) as u32;
+    lend(what, room, &rest[given..], timing, number);
 }
 
 // Reads what follows a header and answers the case; answers whether all came.

@@ -4,7 +4,7 @@
 // `host` ask through `info_060`, and the page of the rules prints the table. `classify_by_group` is the same word by
 // one match on the top four bits, over the rows of `low_groups`, `group_four` and `high_groups`, and lays no table out:
 // for the fast step `profile` has the same arms, joined with those of the masks. `operand` makes the words that rows
-// share.
+// share; `lea_060` is handed on for the mended profile.
 mod group_four;
 mod high_groups;
 mod low_groups;
@@ -13,6 +13,7 @@ mod rules;
 mod table;
 
 pub use group_four::group4;
+pub use group_four::lea_060;
 pub use high_groups::add_sub;
 pub use high_groups::group8;
 pub use high_groups::group11;

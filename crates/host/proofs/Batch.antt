@@ -9,15 +9,17 @@ use lib.ListN.{length, set, take, drop, take-append-drop, length-drop}
 use lib.Seq.{take-suc-set, append-snoc, drop-set-lt}
 use Rattle.window.specs.Windows.{seen}
 use Rattle.window.specs.declared.Window.{Window}
+use Rattle.profile.specs.declared.Profile.{Profile}
 use Rattle.state.specs.declared.Retirement.{Retirement}
 use Rattle.state.specs.declared.Oep060Timing.{Oep060Timing}
 use Rattle.state.specs.declared.Stepped.{Stepped}
 use Rattle.state.specs.Events.{total}
 use Rattle.state.specs.Timing.{timingAt, seenOf}
-use Rattle.step.specs.CrateBoard.{steppedOf}
+use Rattle.step.specs.Boards.{steppedOf}
 use Rattle.refusals.specs.declared.Refusal.{Refusal}
 use Rattle.refusals.specs.declared.Verdict.{Verdict}
 use Rattle.refusals.specs.declared.Verdict.the-variants.{Accepted, Refused}
+use Rattle.batch.specs.declared.Chosen.{Chosen}
 use Rattle.batch.specs.Judge.{batchVerdictOf}
 use Rattle.batch.specs.Batch.{batchOutcomeBy, batchAcceptedOf, batchOf}
 use Rattle.batch.proofs.Run.{endOf, paidOf, end-none, paid-none, end-first, paid-first, runs-within}
@@ -25,81 +27,84 @@ use Rattle.in_place.proofs.NumbersHeld.{window-held}
 use Rattle.host.specs.declared.results.HostRan.{HostRan}
 use Rattle.in_place.specs.Lent.{Lent, lent, stateAt, lentOf}
 use Rattle.in_place.specs.WindowNumbers.{windowAt, numbersOf}
-use Rattle.host.specs.HostRan.{HostOutcome, hostRanOf, hostOutcome}
+use Rattle.host.specs.HostRan.{hostRanOf, hostOutcome}
 use Rattle.host.specs.HostWords.{wordsAt, retirementsOf, hostOutcomeOfBatch, runBatchAtOf}
 use Rattle.host.proofs.WordsLaws.{words-count, words-none, words-next}
 use Rattle.batch.specs.Turning.{runsBy, Reached}
 
+abbrev on : Profile → Oep060Timing → Chosen
+on P t = record { timing = t; profile = P }
+
 -- so many costs stand in the places cs, and n is their sum: what the records rs, run from the state t, make of that
-abbrev pub restOf : ℕ → ℕ → List ℕ → Oep060Timing → List Retirement → Reached
-restOf i n cs t rs =
+abbrev pub restOf : Profile → ℕ → ℕ → List ℕ → Oep060Timing → List Retirement → Reached
+restOf P i n cs t rs =
     record {
-      timing = endOf t rs;
-      total = n + total (paidOf t rs);
-      places = take i cs ++ paidOf t rs ++ drop (i + length rs) cs;
+      chosen = endOf (on P t) rs;
+      total = n + total (paidOf (on P t) rs);
+      places = take i cs ++ paidOf (on P t) rs ++ drop (i + length rs) cs;
     }
 
-same : {t u : Oep060Timing} {n m : ℕ} {cs ds : List ℕ} → t ≡ u → n ≡ m → cs ≡ ds
-    → _≡_ {A = Reached} (record { timing = t; total = n; places = cs }) (record { timing = u; total = m; places = ds })
+same : {t u : Chosen} {n m : ℕ} {cs ds : List ℕ} → t ≡ u → n ≡ m → cs ≡ ds
+    → _≡_ {A = Reached} (record { chosen = t; total = n; places = cs }) (record { chosen = u; total = m; places = ds })
 same e f g = rw (e, f, g)
 
 -- one record further
-pub rest-turn : (i n : ℕ) (cs : List ℕ) (t : Oep060Timing) (r : Retirement) (rs : List Retirement) → i < length cs
-    → restOf (i + 1) (n + steppedOf t r .cost .0) (set cs i (steppedOf t r .cost .0)) (steppedOf t r .timing) rs ≡ restOf i n cs t (r ∷ rs)
-rest-turn i n cs t r rs h =
-    let cost : ℕ = steppedOf t r .cost .0 in
-    let later : List ℕ = paidOf (steppedOf t r .timing) rs in
+pub rest-turn : (P : Profile) (i n : ℕ) (cs : List ℕ) (t : Oep060Timing) (r : Retirement) (rs : List Retirement) → i < length cs
+    → restOf P (i + 1) (n + steppedOf P t r .cost .0) (set cs i (steppedOf P t r .cost .0)) (steppedOf P t r .timing) rs ≡ restOf P i n cs t (r ∷ rs)
+rest-turn P i n cs t r rs h =
+    let cost : ℕ = steppedOf P t r .cost .0 in
+    let later : List ℕ = paidOf (on P (steppedOf P t r .timing)) rs in
     let after : i < suc i + length rs = omega arith in
     let next : suc i + length rs ≡ i + suc (length rs) = omega arith in
     let sum : n + cost + total later ≡ n + (cost + total later) = omega arith in
     same
-    (sym (end-first t r rs))
-    (sum ∙ ap (λ (ps : List ℕ). n + total ps) (sym (paid-first t r rs)))
-    (rw (add-one, paid-first t r rs, take-suc-set cs i cost h, append-snoc (take i cs) cost later, drop-set-lt (suc i + length rs) cs i cost after, next))
+    (sym (end-first (on P t) r rs))
+    (sum ∙ ap (λ (ps : List ℕ). n + total ps) (sym (paid-first (on P t) r rs)))
+    (rw (add-one, paid-first (on P t) r rs, take-suc-set cs i cost h, append-snoc (take i cs) cost later, drop-set-lt (suc i + length rs) cs i cost after, next))
 
 -- one turn of the loop: the record of the next four words
-pub rest-again : (ws cs : List ℕ) (i n : ℕ) (t : Oep060Timing) {x : Stepped} → i < length ws / 4 → i < length cs → x ≡ steppedOf t (wordsAt ws i)
-    → restOf (i + 1) (n + x .cost .0) (set cs i (x .cost .0)) (x .timing) (retirementsOf (drop (4 * (i + 1)) ws)) ≡ restOf i n cs t (retirementsOf (drop (4 * i) ws))
-rest-again ws cs i n t h k f =
+pub rest-again : (P : Profile) (ws cs : List ℕ) (i n : ℕ) (t : Oep060Timing) {x : Stepped} → i < length ws / 4 → i < length cs → x ≡ steppedOf P t (wordsAt ws i)
+    → restOf P (i + 1) (n + x .cost .0) (set cs i (x .cost .0)) (x .timing) (retirementsOf (drop (4 * (i + 1)) ws)) ≡ restOf P i n cs t (retirementsOf (drop (4 * i) ws))
+rest-again P ws cs i n t h k f =
     let rs : List Retirement = retirementsOf (drop (4 * (i + 1)) ws) in
     let four : 4 * (i + 1) ≡ 4 * i + 4 = omega arith in
     let next : wordsAt ws i ∷ rs ≡ retirementsOf (drop (4 * i) ws) = rw (four, words-next ws (4 * i) (omega arith)) in
-    ap (λ (x : Stepped). restOf (i + 1) (n + x .cost .0) (set cs i (x .cost .0)) (x .timing) rs) f
-    ∙ rest-turn i n cs t (wordsAt ws i) rs k
-    ∙ ap (λ (rs : List Retirement). restOf i n cs t rs) next
+    ap (λ (x : Stepped). restOf P (i + 1) (n + x .cost .0) (set cs i (x .cost .0)) (x .timing) rs) f
+    ∙ rest-turn P i n cs t (wordsAt ws i) rs k
+    ∙ ap (λ (rs : List Retirement). restOf P i n cs t rs) next
 
 -- no record is left
-pub rest-none : (i n : ℕ) (cs : List ℕ) (t : Oep060Timing) → restOf i n cs t [] ≡ record { timing = t; total = n; places = cs }
-rest-none i n cs t =
+pub rest-none : (P : Profile) (i n : ℕ) (cs : List ℕ) (t : Oep060Timing) → restOf P i n cs t [] ≡ record { chosen = on P t; total = n; places = cs }
+rest-none P i n cs t =
     let sum : n + 0 ≡ n = omega arith in
     let here : i + 0 ≡ i = omega arith in
-    same (end-none t) (rw paid-none sum) (rw (paid-none, append-nil, here) (take-append-drop i cs))
+    same (end-none (on P t)) (rw paid-none sum) (rw (paid-none, append-nil, here) (take-append-drop i cs))
 
 -- all records are run: the answer of an accepted batch
-pub all-run : (ws cs ps : List ℕ) (i n : ℕ) (l : Lent) (t u : Oep060Timing) → length ws / 4 ≤ i
-    → restOf i n cs t (retirementsOf (drop (4 * i) ws)) ≡ restOf 0 0 ps (seenOf u) (retirementsOf ws)
-    → hostOutcome (hostRanOf Accepted (length ws / 4) n) cs (lentOf t) ≡ hostOutcomeOfBatch l (batchAcceptedOf (retirementsOf ws) ps u)
-all-run ws cs ps i n l t u h e =
+pub all-run : (P : Profile) (ws cs ps : List ℕ) (i n : ℕ) (l : Lent) (t u : Oep060Timing) → length ws / 4 ≤ i
+    → restOf P i n cs t (retirementsOf (drop (4 * i) ws)) ≡ restOf P 0 0 ps (seenOf u) (retirementsOf ws)
+    → hostOutcome (hostRanOf Accepted (length ws / 4) n) cs (lentOf t) ≡ hostOutcomeOfBatch l (batchAcceptedOf P (retirementsOf ws) ps u)
+all-run P ws cs ps i n l t u h e =
     let rs : List Retirement = retirementsOf ws in
     let left : length (drop (4 * i) ws) < 4 = rw length-drop (omega arith) in
     let none : retirementsOf (drop (4 * i) ws) ≡ [] = words-none (drop (4 * i) ws) left in
-    let sum : 0 + total (paidOf (seenOf u) rs) ≡ total (paidOf (seenOf u) rs) = omega arith in
+    let sum : 0 + total (paidOf (on P (seenOf u)) rs) ≡ total (paidOf (on P (seenOf u)) rs) = omega arith in
     let past : 0 + length rs ≡ length rs = omega arith in
     ap (λ (k : ℕ). hostOutcome (hostRanOf Accepted k n) cs (lentOf t)) (sym (words-count ws))
-    ∙ ap (λ (p : Reached). hostOutcome (hostRanOf Accepted (length rs) (p .total)) (p .places) (lentOf (p .timing)))
-    (sym (rest-none i n cs t) ∙ ap (λ (rs : List Retirement). restOf i n cs t rs) (sym none) ∙ e)
+    ∙ ap (λ (p : Reached). hostOutcome (hostRanOf Accepted (length rs) (p .total)) (p .places) (lentOf (p .chosen .timing)))
+    (sym (rest-none P i n cs t) ∙ ap (λ (rs : List Retirement). restOf P i n cs t rs) (sym none) ∙ e)
     ∙ rw (sum, past)
 
 -- the same over the numbers that are lent: those of the window that is left are plain, and the run began with the window as it is read
-pub run-ends : (ws cs ps : List ℕ) (i n : ℕ) (l l₀ : Lent) {ns : List ℕ} → length ws / 4 ≤ i
+pub run-ends : (P : Profile) (ws cs ps : List ℕ) (i n : ℕ) (l l₀ : Lent) {ns : List ℕ} → length ws / 4 ≤ i
     → numbersOf (windowAt (l .window)) ≡ l .window
     → ns ≡ numbersOf (seen (windowAt (l₀ .window)))
-    → restOf i n cs (stateAt l) (retirementsOf (drop (4 * i) ws)) ≡ restOf 0 0 ps (timingAt (l₀ .tags) (l₀ .state) (windowAt ns)) (retirementsOf ws)
-    → hostOutcome (hostRanOf Accepted (length ws / 4) n) cs (lent (l .tags) (l .state) (l .window)) ≡ hostOutcomeOfBatch l₀ (batchAcceptedOf (retirementsOf ws) ps (stateAt l₀))
-run-ends ws cs ps i n l l₀ h plain e f =
+    → restOf P i n cs (stateAt l) (retirementsOf (drop (4 * i) ws)) ≡ restOf P 0 0 ps (timingAt (l₀ .tags) (l₀ .state) (windowAt ns)) (retirementsOf ws)
+    → hostOutcome (hostRanOf Accepted (length ws / 4) n) cs (lent (l .tags) (l .state) (l .window)) ≡ hostOutcomeOfBatch l₀ (batchAcceptedOf P (retirementsOf ws) ps (stateAt l₀))
+run-ends P ws cs ps i n l l₀ h plain e f =
     ap (λ (ns : List ℕ). hostOutcome (hostRanOf Accepted (length ws / 4) n) cs (lent (l .tags) (l .state) ns)) (sym plain)
-    ∙ all-run ws cs ps i n l₀ (stateAt l) (stateAt l₀) h
-    (f ∙ ap (λ (w : Window). restOf 0 0 ps (timingAt (l₀ .tags) (l₀ .state) w) (retirementsOf ws)) (ap windowAt e ∙ window-held (seen (windowAt (l₀ .window)))))
+    ∙ all-run P ws cs ps i n l₀ (stateAt l) (stateAt l₀) h
+    (f ∙ ap (λ (w : Window). restOf P 0 0 ps (timingAt (l₀ .tags) (l₀ .state) w) (retirementsOf ws)) (ap windowAt e ∙ window-held (seen (windowAt (l₀ .window)))))
 
 -- the window as it is read, as numbers: plain
 pub seen-plain : (w : Window) {ns : List ℕ} → ns ≡ numbersOf (seen w) → numbersOf (windowAt ns) ≡ ns
@@ -117,20 +122,20 @@ accepted-within n m e =
     (subst (λ (k : ℕ). k ≤ m) run (w .1), subst (λ (k : ℕ). k ≤ 1048576) run (w .2))
 
 -- the whole answer by the verdict
-module _ (ws ps : List ℕ) (l : Lent) where
+module _ (P : Profile) (ws ps : List ℕ) (l : Lent) where
   by-verdict : (v : Verdict) → batchVerdictOf (length (retirementsOf ws)) (length ps) ≡ v
-      → hostOutcomeOfBatch l (batchOutcomeBy v (retirementsOf ws) ps (stateAt l)) ≡ runBatchAtOf ws ps l
+      → hostOutcomeOfBatch l (batchOutcomeBy P v (retirementsOf ws) ps (stateAt l)) ≡ runBatchAtOf P ws ps l
   unfolding batchOf
-  by-verdict v e = ap (λ (v : Verdict). hostOutcomeOfBatch l (batchOutcomeBy v (retirementsOf ws) ps (stateAt l))) (sym e)
+  by-verdict v e = ap (λ (v : Verdict). hostOutcomeOfBatch l (batchOutcomeBy P v (retirementsOf ws) ps (stateAt l))) (sym e)
 
   pub batch-refused : {refusal : Refusal} {v : Verdict} → v ≡ Refused refusal → v ≡ batchVerdictOf (length ws / 4) (length ps) → {ran : HostRan} → ran ≡ hostRanOf v 0 0
-      → hostOutcome ran ps l ≡ runBatchAtOf ws ps l
+      → hostOutcome ran ps l ≡ runBatchAtOf P ws ps l
   batch-refused {refusal} told e f =
       ap (λ (ran : HostRan). hostOutcome ran ps l) (f ∙ ap (λ (v : Verdict). hostRanOf v 0 0) told) ∙ by-verdict (Refused refusal) (words-verdict ws ps (sym told ∙ e))
 
   pub batch-accepted : {v : Verdict} → v ≡ Accepted → v ≡ batchVerdictOf (length ws / 4) (length ps) → {n : ℕ} {ran : HostRan} → ran ≡ hostRanOf v (length ws / 4) n
-      → {cs : List ℕ} {m : Lent} → hostOutcome (hostRanOf Accepted (length ws / 4) n) cs m ≡ hostOutcomeOfBatch l (batchAcceptedOf (retirementsOf ws) ps (stateAt l))
-      → hostOutcome ran cs m ≡ runBatchAtOf ws ps l
+      → {cs : List ℕ} {m : Lent} → hostOutcome (hostRanOf Accepted (length ws / 4) n) cs m ≡ hostOutcomeOfBatch l (batchAcceptedOf P (retirementsOf ws) ps (stateAt l))
+      → hostOutcome ran cs m ≡ runBatchAtOf P ws ps l
   batch-accepted told e {n} f {cs} {m} g =
       ap (λ (ran : HostRan). hostOutcome ran cs m) (f ∙ ap (λ (v : Verdict). hostRanOf v (length ws / 4) n) told)
       ∙ g

@@ -1,7 +1,8 @@
 // What a host in C or Rust calls: it lends its state as numbers, and need test nothing first.
 //
 // `results` has what a run gives, as numbers, and the next state stored; `words` a batch as 32-bit words. Each function
-// here is a thin one over the crates below: raw counts and clocks are taken apart here and nowhere above.
+// here is a thin one over the crates below: raw counts and clocks are taken apart here and nowhere above, and a profile
+// comes as a number (`profile_at`).
 mod results;
 mod words;
 
@@ -10,7 +11,8 @@ pub use results::host_ran;
 ghost use mathlib.Core.Path.{_≡_};
 ghost use mathlib.Core.List.{List};
 ghost use Prim.Native.Nat.{ℕ};
-ghost use Rattle.classifier.specs.Classify.{classifyOf};
+ghost use Rattle.profile.specs.declared.Profile.{Profile};
+ghost use Rattle.profile.specs.Profile.{profileOf, profileAt};
 ghost use Rattle.state.specs.Timing.{freshOf};
 ghost use Rattle.state.specs.declared.Event.the-variants.{Broken, ClearedAll, ClearedUser};
 ghost use Rattle.in_place.specs.Lent.{lent, lentOf};
@@ -23,10 +25,12 @@ ghost use Rattle.state.specs.Flags.{retirementOf};
 ghost use Rattle.host.specs.HostMasks.{hostMasksOf};
 ghost use Rattle.class_word.specs.Word.{clocks};
 ghost use Rattle.window.specs.Raw.{rawCount};
+use class_word::Info060;
 use in_place::WindowNumbers;
 use results::fresh_at;
 use results::put_accepted;
 use results::put_timing;
+use window::Instruction;
 
 #[repr(C)]
 pub struct HostMasks {
@@ -46,12 +50,13 @@ pub extern "C" fn timing_060_fresh_at(
     fresh_at(tags, state, window)
 }
 
-// One retirement in place: its clocks.
+// One retirement in place, in the profile of this number: its clocks.
 #[no_mangle]
 pub extern "C" fn timing_060_retire_at(
     tags: &mut [u32; 256],
     state: &mut [u8; 256],
     window: &mut WindowNumbers,
+    profile: u32,
     op: u16,
     flags: u16,
     ppc: u32,
@@ -59,17 +64,17 @@ pub extern "C" fn timing_060_retire_at(
     raw: i32,
 ) -> u32
     ensures { λ r. ⌜ paid (clocks r) (lent (now (tags .exit)) (now (state .exit)) (now (window .exit)))
-        ≡ retireAtOf (lent (now (tags .entry)) (now (state .entry)) (now (window .entry)))
+        ≡ retireAtOf (profileAt profile) (lent (now (tags .entry)) (now (state .entry)) (now (window .entry)))
         (retirementOf op flags ppc pc (rawCount raw)) ⌝ }
 {
-    in_place::retire_at(tags, state, window, op, flags, ppc, pc, raw)
+    in_place::retire_at(tags, state, window, profile, op, flags, ppc, pc, raw)
 }
 
 // The break: tags and slots stay, and are not lent.
 #[no_mangle]
 pub extern "C" fn timing_060_break_at(window: &mut WindowNumbers)
-    ensures { λ _. ⌜ ((tags state : List ℕ) → lent tags state (now (window .exit))
-        ≡ eventAtOf (lent tags state (now (window .entry))) Broken) ⌝ }
+    ensures { λ _. ⌜ ((p : Profile) (tags state : List ℕ) → lent tags state (now (window .exit))
+        ≡ eventAtOf p (lent tags state (now (window .entry))) Broken) ⌝ }
 {
     in_place::shut_window(window);
 }
@@ -77,8 +82,8 @@ pub extern "C" fn timing_060_break_at(window: &mut WindowNumbers)
 // CACR.CABC: the tags stay, and are not lent.
 #[no_mangle]
 pub extern "C" fn timing_060_clear_all_at(state: &mut [u8; 256], window: &mut WindowNumbers)
-    ensures { λ _. ⌜ ((tags : List ℕ) → lent tags (now (state .exit)) (now (window .exit))
-        ≡ eventAtOf (lent tags (now (state .entry)) (now (window .entry))) ClearedAll) ⌝ }
+    ensures { λ _. ⌜ ((p : Profile) (tags : List ℕ) → lent tags (now (state .exit)) (now (window .exit))
+        ≡ eventAtOf p (lent tags (now (state .entry)) (now (window .entry))) ClearedAll) ⌝ }
 {
     in_place::clear_all_at(state, window);
 }
@@ -86,27 +91,43 @@ pub extern "C" fn timing_060_clear_all_at(state: &mut [u8; 256], window: &mut Wi
 // CACR.CUBC: the tags stay, and are not lent; the cache's own rule looks at none.
 #[no_mangle]
 pub extern "C" fn timing_060_clear_user_at(state: &mut [u8; 256], window: &mut WindowNumbers)
-    ensures { λ _. ⌜ ((tags : List ℕ) → lent tags (now (state .exit)) (now (window .exit))
-        ≡ eventAtOf (lent tags (now (state .entry)) (now (window .entry))) ClearedUser) ⌝ }
+    ensures { λ _. ⌜ ((p : Profile) (tags : List ℕ) → lent tags (now (state .exit)) (now (window .exit))
+        ≡ eventAtOf p (lent tags (now (state .entry)) (now (window .entry))) ClearedUser) ⌝ }
 {
     in_place::clear_user_at(state, window);
 }
 
 #[no_mangle]
-pub extern "C" fn timing_060_class_word(op: u16) -> u16
-    ensures { λ r. ⌜ r ≡ classifyOf op ⌝ }
+pub extern "C" fn timing_060_class_word(op: u16, profile: u32) -> u16
+    ensures { λ r. ⌜ r ≡ profileOf (profileAt profile) op .word .0 ⌝ }
 {
-    classifier::info_060(op).0
+    // No profile's word depends on the masks, and so none are looked up.
+    let word = classifier::info_060(op);
+    let i = Instruction {
+        word,
+        uses: 0,
+        defs: 0,
+    };
+    let p = profile::profile_at(profile);
+    profile::read_in(p, op, i).word.0
 }
 
 #[no_mangle]
-pub extern "C" fn timing_060_masks_of(op: u16) -> HostMasks
-    ensures { λ r. ⌜ r ≡ hostMasksOf op ⌝ }
+pub extern "C" fn timing_060_masks_of(op: u16, profile: u32) -> HostMasks
+    ensures { λ r. ⌜ r ≡ hostMasksOf (profileAt profile) op ⌝ }
 {
+    // Nor do a profile's masks depend on the word.
     let masks = masks::reg_masks_060(op);
-    HostMasks {
+    let i = Instruction {
+        word: Info060(0),
         uses: masks.uses,
         defs: masks.defs,
+    };
+    let p = profile::profile_at(profile);
+    let read = profile::read_in(p, op, i);
+    HostMasks {
+        uses: read.uses,
+        defs: read.defs,
     }
 }
 
@@ -118,14 +139,16 @@ pub extern "C" fn timing_060_run_trace_at(
     tags: &mut [u32; 256],
     state: &mut [u8; 256],
     window: &mut WindowNumbers,
+    profile: u32,
 ) -> HostRan
     ensures { λ r. ⌜ hostOutcome r (now (costs .exit)) (lent (now (tags .exit)) (now (state .exit))
         (now (window .exit)))
-        ≡ runTraceAtOf (now (trace .entry)) (now (costs .entry)) (lent (now (tags .entry)) (now (state .entry))
-        (now (window .entry))) ⌝ }
+        ≡ runTraceAtOf (profileAt profile) (now (trace .entry)) (now (costs .entry)) (lent (now (tags .entry))
+        (now (state .entry)) (now (window .entry))) ⌝ }
 {
     let given = in_place::timing_at(*tags, *state, *window);
-    let ran = trace::run_trace(trace, costs, given);
+    let p = profile::profile_at(profile);
+    let ran = trace::run_trace(trace, costs, given, p);
     let verdict = ran.verdict;
     let next = ran.timing;
     put_accepted(tags, state, window, verdict, next);
@@ -140,13 +163,14 @@ pub extern "C" fn timing_060_run_batch_at(
     tags: &mut [u32; 256],
     state: &mut [u8; 256],
     window: &mut WindowNumbers,
+    profile: u32,
 ) -> HostRan
     ensures { λ r. ⌜ hostOutcome r (now (costs .exit)) (lent (now (tags .exit)) (now (state .exit))
         (now (window .exit)))
-        ≡ runBatchAtOf (now (records .entry)) (now (costs .entry)) (lent (now (tags .entry)) (now (state .entry))
-        (now (window .entry))) ⌝ }
+        ≡ runBatchAtOf (profileAt profile) (now (records .entry)) (now (costs .entry)) (lent (now (tags .entry))
+        (now (state .entry)) (now (window .entry))) ⌝ }
 {
-    words::run_batch_at(records, costs, tags, state, window)
+    words::run_batch_at(records, costs, tags, state, window, profile)
 }
 
 // The image of a state; the count is the bytes written.

@@ -2,6 +2,7 @@
 ghost use mathlib.Core.Path.{_≡_};
 ghost use Prim.Native.Nat.{_+_, _*_, _/_, _<_, _≤_};
 ghost use lib.ListN.{length, getD};
+ghost use Rattle.profile.specs.Profile.{profileAt};
 ghost use Rattle.refusals.specs.declared.Verdict.the-variants.{Accepted};
 ghost use Rattle.batch.specs.Batch.{batchAcceptedOf};
 ghost use Rattle.in_place.specs.Lent.{lent, stateAt};
@@ -29,11 +30,12 @@ fn retire_record(
     tags: &mut [u32; 256],
     state: &mut [u8; 256],
     window: &mut WindowNumbers,
+    profile: u32,
 ) -> Clocks
     requires { ⌜ 4 * i + 4 ≤ length (now records) ⌝ }
     ensures { λ r. ⌜ paid r (lent (now (tags .exit)) (now (state .exit)) (now (window .exit)))
-        ≡ retireAtOf (lent (now (tags .entry)) (now (state .entry)) (now (window .entry))) (wordsAt (now
-        (records .entry)) i) ⌝ }
+        ≡ retireAtOf (profileAt profile) (lent (now (tags .entry)) (now (state .entry)) (now (window .entry)))
+        (wordsAt (now (records .entry)) i) ⌝ }
 {
     let at = 4 * i;
     let head = word_at(records, at);
@@ -44,6 +46,7 @@ fn retire_record(
         tags,
         state,
         window,
+        profile,
         (head & 0xFFFF) as u16,
         (head >> 16) as u16,
         ppc,
@@ -59,12 +62,13 @@ fn run_words(
     tags: &mut [u32; 256],
     state: &mut [u8; 256],
     window: &mut WindowNumbers,
+    profile: u32,
 ) -> u64
     requires { ⌜ (length (now records) / 4 ≤ length (now costs)) × (length (now records) / 4 ≤ 1048576) ⌝ }
     ensures { λ r. ⌜ hostOutcome (hostRanOf Accepted (length (now (records .entry)) / 4) r) (now (costs .exit)) (lent
         (now (tags .exit)) (now (state .exit)) (now (window .exit)))
         ≡ hostOutcomeOfBatch (lent (now (tags .entry)) (now (state .entry)) (now (window .entry)))
-        (batchAcceptedOf (retirementsOf (now (records .entry))) (now (costs .entry)) (stateAt (lent
+        (batchAcceptedOf (profileAt profile) (retirementsOf (now (records .entry))) (now (costs .entry)) (stateAt (lent
         (now (tags .entry)) (now (state .entry)) (now (window .entry))))) ⌝ }
 {
     let count = records.len() / 4;
@@ -72,7 +76,7 @@ fn run_words(
     let mut total: u64 = 0;
     let mut i: usize = 0;
     while i < count {
-        let cost = retire_record(records, i, tags, state, window);
+        let cost = retire_record(records, i, tags, state, window, profile);
         costs[i] = cost.0;
         total += cost.0 as u64;
         i += 1;
@@ -87,18 +91,19 @@ pub fn run_batch_at(
     tags: &mut [u32; 256],
     state: &mut [u8; 256],
     window: &mut WindowNumbers,
+    profile: u32,
 ) -> HostRan
     ensures { λ r. ⌜ hostOutcome r (now (costs .exit)) (lent (now (tags .exit)) (now (state .exit))
         (now (window .exit)))
-        ≡ runBatchAtOf (now (records .entry)) (now (costs .entry)) (lent (now (tags .entry)) (now (state .entry))
-        (now (window .entry))) ⌝ }
+        ≡ runBatchAtOf (profileAt profile) (now (records .entry)) (now (costs .entry)) (lent (now (tags .entry))
+        (now (state .entry)) (now (window .entry))) ⌝ }
 {
     let count = records.len() / 4;
     let verdict = batch::batch_verdict(count, costs.len());
     match verdict {
         Verdict::Refused(_) => host_ran(verdict, 0, 0),
         Verdict::Accepted => {
-            let total = run_words(records, costs, tags, state, window);
+            let total = run_words(records, costs, tags, state, window, profile);
             host_ran(verdict, count, total)
         }
     }

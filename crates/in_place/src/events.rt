@@ -2,6 +2,7 @@
 ghost use mathlib.Core.Path.{_≡_};
 ghost use mathlib.Core.List.{List, [], _∷_};
 ghost use Prim.Native.Nat.{ℕ};
+ghost use Rattle.profile.specs.declared.Profile.{Profile};
 ghost use Rattle.state.specs.declared.Event.the-variants.{ClearedAll, ClearedUser};
 ghost use Rattle.state.specs.Events.{countOf};
 ghost use Rattle.in_place.specs.Lent.{lent};
@@ -12,6 +13,7 @@ use crate::windows::see_window;
 use crate::windows::shut_window;
 use branch_cache::BranchCache060;
 use class_word::Clocks;
+use profile::Profile;
 use state::Event;
 
 // How many retirements an event is, and its clocks.
@@ -22,8 +24,8 @@ pub struct Happened {
 
 // The tags stay, and are not lent.
 pub fn clear_all_at(state: &mut [u8; 256], window: &mut WindowNumbers)
-    ensures { λ _. ⌜ ((tags : List ℕ) → lent tags (now (state .exit)) (now (window .exit))
-        ≡ eventAtOf (lent tags (now (state .entry)) (now (window .entry))) ClearedAll) ⌝ }
+    ensures { λ _. ⌜ ((p : Profile) (tags : List ℕ) → lent tags (now (state .exit)) (now (window .exit))
+        ≡ eventAtOf p (lent tags (now (state .entry)) (now (window .entry))) ClearedAll) ⌝ }
 {
     *state = [0; 256];
     see_window(window);
@@ -31,8 +33,8 @@ pub fn clear_all_at(state: &mut [u8; 256], window: &mut WindowNumbers)
 
 // The tags stay, and are not lent; the cache's own rule looks at none.
 pub fn clear_user_at(state: &mut [u8; 256], window: &mut WindowNumbers)
-    ensures { λ _. ⌜ ((tags : List ℕ) → lent tags (now (state .exit)) (now (window .exit))
-        ≡ eventAtOf (lent tags (now (state .entry)) (now (window .entry))) ClearedUser) ⌝ }
+    ensures { λ _. ⌜ ((p : Profile) (tags : List ℕ) → lent tags (now (state .exit)) (now (window .exit))
+        ≡ eventAtOf p (lent tags (now (state .entry)) (now (window .entry))) ClearedUser) ⌝ }
 {
     let cache = BranchCache060 {
         tags: [0; 256],
@@ -49,15 +51,16 @@ pub fn event_at(
     tags: &mut [u32; 256],
     state: &mut [u8; 256],
     window: &mut WindowNumbers,
+    profile: Profile,
     e: Event,
 ) -> Happened
     ensures { λ r. ⌜ (paid (r .cost) (lent (now (tags .exit)) (now (state .exit)) (now (window .exit)))
-        ≡ paidFor (lent (now (tags .entry)) (now (state .entry)) (now (window .entry))) e) × (r .count
+        ≡ paidFor profile (lent (now (tags .entry)) (now (state .entry)) (now (window .entry))) e) × (r .count
         ≡ countOf (e ∷ [])) ⌝ }
 {
     match e {
         Event::Retired(r) => {
-            let cost = retire_in_place(tags, state, window, r);
+            let cost = retire_in_place(tags, state, window, profile, r);
             Happened { count: 1, cost }
         }
         Event::Broken => {

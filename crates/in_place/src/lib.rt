@@ -20,6 +20,7 @@ pub use windows::see_window;
 pub use windows::shut_window;
 pub use windows::window_at;
 ghost use mathlib.Core.Path.{_≡_};
+ghost use Rattle.profile.specs.Profile.{profileAt};
 ghost use Rattle.state.specs.Flags.{retirementOf};
 ghost use Rattle.in_place.specs.Lent.{lent};
 ghost use Rattle.in_place.specs.Retire.{paid, retireAtOf};
@@ -27,6 +28,7 @@ ghost use Rattle.class_word.specs.Word.{clocks};
 ghost use Rattle.window.specs.Raw.{rawCount};
 use class_word::Clocks;
 use class_word::F_BRANCH;
+use profile::Profile;
 use state::Retirement;
 use window::RawCount;
 
@@ -35,6 +37,7 @@ fn retire(
     tags: &mut [u32; 256],
     state: &mut [u8; 256],
     window: &mut WindowNumbers,
+    profile: Profile,
     op: u16,
     flags: u16,
     ppc: u32,
@@ -42,11 +45,11 @@ fn retire(
     raw: RawCount,
 ) -> Clocks
     ensures { λ r. ⌜ paid r (lent (now (tags .exit)) (now (state .exit)) (now (window .exit)))
-        ≡ retireAtOf (lent (now (tags .entry)) (now (state .entry)) (now (window .entry)))
+        ≡ retireAtOf profile (lent (now (tags .entry)) (now (state .entry)) (now (window .entry)))
         (retirementOf op flags ppc pc raw) ⌝ }
 {
     let k = state::controls_of(flags, ppc, pc, raw);
-    let i = profile::instruction_060(op);
+    let i = profile::instruction_060(profile, op);
     if i.word.has(F_BRANCH) { // only a branch asks the cache
         let answer = ask::ask_in_place(tags, state, i, k);
         let w = window_at(*window);
@@ -64,13 +67,14 @@ fn retire(
     clocks
 }
 
-// One retirement of these numbers: its clocks. The step is large and stays a call, and a C function's numbers go
-// through it in registers, where structs would go through memory.
+// One retirement of these numbers, the profile's among them: its clocks. The step is large and stays a call, and a C
+// function's numbers go through it in registers, where structs would go through memory.
 #[no_mangle]
 pub extern "C" fn retire_at(
     tags: &mut [u32; 256],
     state: &mut [u8; 256],
     window: &mut WindowNumbers,
+    profile: u32,
     op: u16,
     flags: u16,
     ppc: u32,
@@ -78,10 +82,11 @@ pub extern "C" fn retire_at(
     raw: i32,
 ) -> u32
     ensures { λ r. ⌜ paid (clocks r) (lent (now (tags .exit)) (now (state .exit)) (now (window .exit)))
-        ≡ retireAtOf (lent (now (tags .entry)) (now (state .entry)) (now (window .entry)))
+        ≡ retireAtOf (profileAt profile) (lent (now (tags .entry)) (now (state .entry)) (now (window .entry)))
         (retirementOf op flags ppc pc (rawCount raw)) ⌝ }
 {
-    retire(tags, state, window, op, flags, ppc, pc, RawCount(raw)).0
+    let p = profile::profile_at(profile);
+    retire(tags, state, window, p, op, flags, ppc, pc, RawCount(raw)).0
 }
 
 // The same for a caller that has the retirement as a struct.
@@ -89,12 +94,24 @@ pub fn retire_in_place(
     tags: &mut [u32; 256],
     state: &mut [u8; 256],
     window: &mut WindowNumbers,
+    profile: Profile,
     r: Retirement,
 ) -> Clocks
     ensures { λ o. ⌜ paid o (lent (now (tags .exit)) (now (state .exit)) (now (window .exit)))
-        ≡ retireAtOf (lent (now (tags .entry)) (now (state .entry)) (now (window .entry))) r ⌝ }
+        ≡ retireAtOf profile (lent (now (tags .entry)) (now (state .entry)) (now (window .entry))) r ⌝ }
 {
     let k = r.controls;
     let flags = state::control_flags(k);
-    Clocks(retire_at(tags, state, window, r.op, flags, k.ppc, k.pc, k.raw.0))
+    let number = profile::number_of(profile);
+    Clocks(retire_at(
+        tags,
+        state,
+        window,
+        number,
+        r.op,
+        flags,
+        k.ppc,
+        k.pc,
+        k.raw.0,
+    ))
 }

@@ -1,6 +1,12 @@
-// Standard input, whole: what the cost lister, the replay and `show_trace` read before they work.
+// What the tools read before they work: standard input, whole, and the word that names a profile.
 //
-// `read_input` is all there is. A program lends one byte more than it takes, so that longer input is seen to be longer.
+// `read_input` reads standard input; `words` has the word. A program lends one byte more than it takes, so that longer
+// input is seen to be longer.
+mod words;
+
+pub use words::Word;
+pub use words::profile_named;
+pub use words::read_word;
 ghost use lib.ListN.{length};
 ghost use Rattle.input.specs.Input.{Within};
 use libc::STDIN_FILENO;

@@ -4,6 +4,7 @@
 // `list_trace` of `listing` is called twice, as the cost lister calls it.
 use libc::STDOUT_FILENO;
 use listing::LISTING_ROOM;
+use profile::Profile;
 use state::Oep060Timing;
 
 // The byte at a place of a trace of breaks: length 0, kind 2.
@@ -13,7 +14,7 @@ fn break_at(i: usize) -> u8 {
 
 fn list(trace: &[u8]) {
     let mut text = [0u8; LISTING_ROOM];
-    let listed = listing::list_trace(trace, &mut text, Oep060Timing::fresh());
+    let listed = listing::list_trace(trace, &mut text, Oep060Timing::fresh(), Profile::Crate);
     let len = listed.len;
     io::write_all(STDOUT_FILENO, &text[..len]);
 }

@@ -23,11 +23,12 @@ use Rattle.cost.specs.Branch.{takenOf, askedCost, branchCost}
 use Rattle.cost.specs.Cost.{baseOf, pairs, costBy, costOf}
 use Rattle.window.proofs.RawLaws.{fallback-most}
 use Rattle.cost.proofs.Largest.{plain-most}
+use Rattle.profile.specs.declared.Profile.{Profile}
 use Rattle.state.specs.declared.Event.{Event}
 use Rattle.state.specs.declared.Event.the-variants.{Retired, Broken, ClearedAll, ClearedUser}
 use Rattle.state.specs.Events.{State, retiringOf, after, retirements, costs, total, countOf}
 use Rattle.state.specs.CrateCache.{crateCache}
-use Rattle.step.specs.CrateBoard.{crateBoard}
+use Rattle.step.specs.Boards.{boardOf}
 use Rattle.trace.specs.Run.{costBytes}
 use Rattle.records.proofs.Choices.{by-test}
 use Rattle.listing.specs.Lines.{opcodesOf, linesFrom, retirementLine}
@@ -79,46 +80,46 @@ behind i n bytes rest e =
     let f : 4 * (i + 1) ≡ 4 * i + 4 = omega arith in
     rw f (sym (drop-drop 4 (4 * i) bytes) ∙ rw e (drop-at (bytesOf 4 n) rest 4 (bytes-length 4 n)))
 
-pub lines-costs : (i : ℕ) (bytes rest : List ℕ) (s : State crateCache) (es : List Event) → Raws es
-    → drop (4 * i) bytes ≡ costBytes (costs crateBoard s es) ++ rest
-    → linesRead i bytes es ≡ linesFrom i (opcodesOf es) (costs crateBoard s es)
+pub lines-costs : (P : Profile) (i : ℕ) (bytes rest : List ℕ) (s : State crateCache) (es : List Event) → Raws es
+    → drop (4 * i) bytes ≡ costBytes (costs (boardOf P) s es) ++ rest
+    → linesRead i bytes es ≡ linesFrom i (opcodesOf es) (costs (boardOf P) s es)
 unfolding linesFrom retirements bytesOfEach
-lines-costs i bytes rest s [] w e = refl
-lines-costs i bytes rest s (Retired r ∷ es) w e =
-    let n : ℕ = costOf (retiringOf crateBoard s r) in
-    let ns : List ℕ = costs crateBoard (after crateBoard s (Retired r)) es in
+lines-costs P i bytes rest s [] w e = refl
+lines-costs P i bytes rest s (Retired r ∷ es) w e =
+    let n : ℕ = costOf (retiringOf (boardOf P) s r) in
+    let ns : List ℕ = costs (boardOf P) (after (boardOf P) s (Retired r)) es in
     let e′ : drop (4 * i) bytes ≡ bytesOf 4 n ++ (costBytes ns ++ rest) = e ∙ append-assoc (bytesOf 4 n) (costBytes ns) rest in
-    let l = cost-most (retiringOf crateBoard s r) (w .0) in
+    let l = cost-most (retiringOf (boardOf P) s r) (w .0) in
     rw (front i n bytes (costBytes ns ++ rest) e′ (omega arith))
     (ap (λ (ls : List ℕ). retirementLine i (r .op) n ++ ls)
-    (lines-costs (i + 1) bytes rest (after crateBoard s (Retired r)) es (w .1) (behind i n bytes (costBytes ns ++ rest) e′)))
-lines-costs i bytes rest s (Broken ∷ es) w e = lines-costs i bytes rest (after crateBoard s Broken) es (w .1) e
-lines-costs i bytes rest s (ClearedAll ∷ es) w e = lines-costs i bytes rest (after crateBoard s ClearedAll) es (w .1) e
-lines-costs i bytes rest s (ClearedUser ∷ es) w e = lines-costs i bytes rest (after crateBoard s ClearedUser) es (w .1) e
+    (lines-costs P (i + 1) bytes rest (after (boardOf P) s (Retired r)) es (w .1) (behind i n bytes (costBytes ns ++ rest) e′)))
+lines-costs P i bytes rest s (Broken ∷ es) w e = lines-costs P i bytes rest (after (boardOf P) s Broken) es (w .1) e
+lines-costs P i bytes rest s (ClearedAll ∷ es) w e = lines-costs P i bytes rest (after (boardOf P) s ClearedAll) es (w .1) e
+lines-costs P i bytes rest s (ClearedUser ∷ es) w e = lines-costs P i bytes rest (after (boardOf P) s ClearedUser) es (w .1) e
 
 -- 20 characters a line
-pub lines-most : (i : ℕ) (s : State crateCache) (es : List Event) → Raws es → i + countOf es ≤ 10000
-    → length (linesFrom i (opcodesOf es) (costs crateBoard s es)) ≤ 20 * countOf es
+pub lines-most : (P : Profile) (i : ℕ) (s : State crateCache) (es : List Event) → Raws es → i + countOf es ≤ 10000
+    → length (linesFrom i (opcodesOf es) (costs (boardOf P) s es)) ≤ 20 * countOf es
 unfolding linesFrom retirements
-lines-most i s [] w h = omega arith
-lines-most i s (Retired r ∷ es) w h =
-    let n : ℕ = costOf (retiringOf crateBoard s r) in
-    let t : State crateCache = after crateBoard s (Retired r) in
+lines-most P i s [] w h = omega arith
+lines-most P i s (Retired r ∷ es) w h =
+    let n : ℕ = costOf (retiringOf (boardOf P) s r) in
+    let t : State crateCache = after (boardOf P) s (Retired r) in
     omega (
       arith,
-      length-append (retirementLine i (r .op) n) (linesFrom (i + 1) (opcodesOf es) (costs crateBoard t es)),
-      line-most i (r .op) n (omega arith) (cost-most (retiringOf crateBoard s r) (w .0)),
-      lines-most (i + 1) t es (w .1) (omega arith),
+      length-append (retirementLine i (r .op) n) (linesFrom (i + 1) (opcodesOf es) (costs (boardOf P) t es)),
+      line-most i (r .op) n (omega arith) (cost-most (retiringOf (boardOf P) s r) (w .0)),
+      lines-most P (i + 1) t es (w .1) (omega arith),
     )
-lines-most i s (Broken ∷ es) w h = lines-most i (after crateBoard s Broken) es (w .1) h
-lines-most i s (ClearedAll ∷ es) w h = lines-most i (after crateBoard s ClearedAll) es (w .1) h
-lines-most i s (ClearedUser ∷ es) w h = lines-most i (after crateBoard s ClearedUser) es (w .1) h
+lines-most P i s (Broken ∷ es) w h = lines-most P i (after (boardOf P) s Broken) es (w .1) h
+lines-most P i s (ClearedAll ∷ es) w h = lines-most P i (after (boardOf P) s ClearedAll) es (w .1) h
+lines-most P i s (ClearedUser ∷ es) w h = lines-most P i (after (boardOf P) s ClearedUser) es (w .1) h
 
-pub costs-most : (s : State crateCache) (es : List Event) → Raws es → total (costs crateBoard s es) ≤ 536870912 * countOf es
+pub costs-most : (P : Profile) (s : State crateCache) (es : List Event) → Raws es → total (costs (boardOf P) s es) ≤ 536870912 * countOf es
 unfolding retirements
-costs-most s [] w = omega arith
-costs-most s (Retired r ∷ es) w =
-    omega (arith, cost-most (retiringOf crateBoard s r) (w .0), costs-most (after crateBoard s (Retired r)) es (w .1))
-costs-most s (Broken ∷ es) w = costs-most (after crateBoard s Broken) es (w .1)
-costs-most s (ClearedAll ∷ es) w = costs-most (after crateBoard s ClearedAll) es (w .1)
-costs-most s (ClearedUser ∷ es) w = costs-most (after crateBoard s ClearedUser) es (w .1)
+costs-most P s [] w = omega arith
+costs-most P s (Retired r ∷ es) w =
+    omega (arith, cost-most (retiringOf (boardOf P) s r) (w .0), costs-most P (after (boardOf P) s (Retired r)) es (w .1))
+costs-most P s (Broken ∷ es) w = costs-most P (after (boardOf P) s Broken) es (w .1)
+costs-most P s (ClearedAll ∷ es) w = costs-most P (after (boardOf P) s ClearedAll) es (w .1)
+costs-most P s (ClearedUser ∷ es) w = costs-most P (after (boardOf P) s ClearedUser) es (w .1)

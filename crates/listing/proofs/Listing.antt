@@ -10,13 +10,12 @@ use lib.Dec.{ltb}
 use borrow.Author.Tests.{lt-ltb, le-ltb, ltb-false}
 use Rattle.little_endian.specs.Numbers.{putAt}
 use Rattle.text.specs.Written.{Written, written, writtenOf}
+use Rattle.profile.specs.declared.Profile.{Profile}
 use Rattle.state.specs.declared.Event.{Event}
 use Rattle.state.specs.declared.Oep060Timing.{Oep060Timing}
 use Rattle.state.specs.Events.{total, countOf}
 use Rattle.state.specs.Timing.{stateOf, seenOf}
-use Rattle.refusals.specs.declared.Refusal.{Refusal}
 use Rattle.refusals.specs.declared.Refusal.the-variants.{Oversized}
-use Rattle.refusals.specs.declared.Verdict.the-variants.{Accepted, Refused}
 use Rattle.refusals.specs.declared.outcome.Ran.{Ran}
 use Rattle.records.specs.Record.{remaining}
 use Rattle.records.proofs.Choices.{by-test}
@@ -24,30 +23,30 @@ use Rattle.records.specs.Trace.{Trace, events, refused, readTrace}
 use Rattle.trace.specs.Run.{traceOutcomeOf, traceOutcome, TraceOutcome, costsOf, runTraceOf}
 use Rattle.records.specs.Judged.{judgedTrace, verdictOf}
 use Rattle.records.specs.Judged.{withRoom}
-use Rattle.listing.specs.Lines.{headerLine, refusalLine, totalLine, opcodesOf, linesFrom}
+use Rattle.listing.specs.Lines.{headerLine, totalLine, opcodesOf, linesFrom}
 use Rattle.listing.specs.Listing.{shortTraceOf, tableOf, textBy, timingBy, listingOutcome, listingOutcomeBy}
 use Rattle.listing.specs.Printed.{linesRead, Ready, printed}
 use Rattle.listing.proofs.Lengths.{total-most}
 use Rattle.listing.proofs.Reading.{Short, Raws, short}
 use Rattle.listing.proofs.Costs.{lines-costs, lines-most, costs-most}
 
-table-most : (size : ℕ) (es : List Event) (t : Oep060Timing) → size ≤ 65536 → Short size (events es) → length (tableOf es t) ≤ 65588
-table-most size es t h q =
-    let ls : List ℕ = linesFrom 0 (opcodesOf es) (costsOf t es) in
-    let a = lines-most 0 (stateOf (seenOf t)) es (q .1) (omega (arith, q .0)) in
-    let b = costs-most (stateOf (seenOf t)) es (q .1) in
-    let c = total-most (countOf es) (total (costsOf t es)) (omega (arith, q .0)) (omega (arith, q .0)) in
-    omega (arith, q .0, length-append (headerLine ++ ls) (totalLine (countOf es) (total (costsOf t es))), length-append headerLine ls)
+table-most : (P : Profile) (size : ℕ) (es : List Event) (t : Oep060Timing) → size ≤ 65536 → Short size (events es) → length (tableOf P es t) ≤ 65588
+table-most P size es t h q =
+    let ls : List ℕ = linesFrom 0 (opcodesOf es) (costsOf P t es) in
+    let a = lines-most P 0 (stateOf (seenOf t)) es (q .1) (omega (arith, q .0)) in
+    let b = costs-most P (stateOf (seenOf t)) es (q .1) in
+    let c = total-most (countOf es) (total (costsOf P t es)) (omega (arith, q .0)) (omega (arith, q .0)) in
+    omega (arith, q .0, length-append (headerLine ++ ls) (totalLine (countOf es) (total (costsOf P t es))), length-append headerLine ls)
 
 enough-room : (size room n : ℕ) (said : Trace) → size ≤ 65536 → Short size said → 13104 ≤ room → withRoom n room said ≡ said
 enough-room size room n (events es) h q r = simp (le-ltb room (4 * countOf es) (omega (arith, q .0)))
 enough-room size room n (refused refusal) h q r = refl
 
 -- text that was written, with the verdict and the next state, is the outcome
-listed : (said : Trace) (out : List ℕ) (t : Oep060Timing) {n : ℕ} {after : List ℕ} → written n after ≡ writtenOf out 0 (textBy said t)
-    → listingOutcome (record { verdict = verdictOf said; len = n; timing = timingBy said t }) after ≡ listingOutcomeBy said out t
+listed : (P : Profile) (said : Trace) (out : List ℕ) (t : Oep060Timing) {n : ℕ} {after : List ℕ} → written n after ≡ writtenOf out 0 (textBy P said t)
+    → listingOutcome (record { verdict = verdictOf said; len = n; timing = timingBy P said t }) after ≡ listingOutcomeBy P said out t
 unfolding writtenOf
-listed said out t e = rw (ap (λ (w : Written). w .next) e ∙ zero-add (length (textBy said t)), ap (λ (w : Written). w .bytes) e)
+listed P said out t e = rw (ap (λ (w : Written). w .next) e ∙ zero-add (length (textBy P said t)), ap (λ (w : Written). w .bytes) e)
 
 pub judged-large : (trace : List ℕ) → 65536 < length trace → shortTraceOf trace ≡ refused Oversized
 unfolding shortTraceOf
@@ -62,17 +61,17 @@ module _ (trace : List ℕ) (h : length trace ≤ 65536) where
   judged-same = simp (le-ltb _ _ h)
 
   -- the whole text of a trace that is accepted
-  pub text-most : (t : Oep060Timing) {es : List Event} → shortTraceOf trace ≡ events es → length (tableOf es t) ≤ 65588
-  text-most t {es} e = table-most (remaining trace 0) es t small (subst (Short (remaining trace 0)) (sym judged-same ∙ e) (short trace))
+  pub text-most : (P : Profile) (t : Oep060Timing) {es : List Event} → shortTraceOf trace ≡ events es → length (tableOf P es t) ≤ 65588
+  text-most P t {es} e = table-most P (remaining trace 0) es t small (subst (Short (remaining trace 0)) (sym judged-same ∙ e) (short trace))
 
   run-judged : (room : ℕ) → 13104 ≤ room → judgedTrace trace room ≡ shortTraceOf trace
   unfolding judgedTrace
   run-judged room big = rw judged-same (simp (le-ltb 16777216 (length trace) (omega arith)) (enough-room (remaining trace 0) room (length trace) (readTrace trace) small (short trace) big))
 
   -- a run that has room for the costs refuses no more
-  pub run-small : (lent : List ℕ) (t : Oep060Timing) → 13104 ≤ length lent → runTraceOf trace lent t ≡ traceOutcomeOf (shortTraceOf trace) lent t
+  pub run-small : (P : Profile) (lent : List ℕ) (t : Oep060Timing) → 13104 ≤ length lent → runTraceOf P trace lent t ≡ traceOutcomeOf P (shortTraceOf trace) lent t
   unfolding runTraceOf
-  run-small lent t big = ap (λ (said : Trace). traceOutcomeOf said lent t) (run-judged (length lent) big)
+  run-small P lent t big = ap (λ (said : Trace). traceOutcomeOf P said lent t) (run-judged (length lent) big)
 
 -- what is known of what a trace said
 module _ (trace : List ℕ) where
@@ -91,38 +90,38 @@ module _ (trace : List ℕ) where
       (λ b. told-small (readTrace trace) refl (ltb-false 65536 (length trace) b) (short trace))
 
   -- what a run of it gave
-  module _ (lent bytes : List ℕ) (t : Oep060Timing) (ran : Ran) where
+  module _ (P : Profile) (lent bytes : List ℕ) (t : Oep060Timing) (ran : Ran) where
     abbrev Gave : Trace → Type 0
-    Gave said = traceOutcome ran bytes ≡ traceOutcomeOf said lent t
+    Gave said = traceOutcome ran bytes ≡ traceOutcomeOf P said lent t
 
-    lines : (es : List Event) → Raws es → Gave (events es) → linesRead 0 bytes es ≡ linesFrom 0 (opcodesOf es) (costsOf t es)
+    lines : (es : List Event) → Raws es → Gave (events es) → linesRead 0 bytes es ≡ linesFrom 0 (opcodesOf es) (costsOf P t es)
     unfolding putAt
-    lines es w e = lines-costs 0 bytes _ (stateOf (seenOf t)) es w (ap (λ (o : TraceOutcome). o .bytes) e)
+    lines es w e = lines-costs P 0 bytes _ (stateOf (seenOf t)) es w (ap (λ (o : TraceOutcome). o .bytes) e)
 
     ready : (said : Trace) → Told said → Gave said → {room : ℕ} → 13104 ≤ length bytes → 65600 ≤ room → Ready (ran .verdict) trace bytes room
     ready (events es) k e big r =
-        let most = lines-most 0 (stateOf (seenOf t)) es (k .1 .1) (omega (arith, k .1 .0)) in
+        let most = lines-most P 0 (stateOf (seenOf t)) es (k .1 .1) (omega (arith, k .1 .0)) in
         rw (ap (λ (o : TraceOutcome). o .ran .verdict) e, k .0)
         (omega (arith, k .1 .0), omega (arith, k .1 .0, ap length (lines es (k .1 .1) e)))
     ready (refused refusal) k e big r = rw (ap (λ (o : TraceOutcome). o .ran .verdict) e) (omega arith)
 
     whole : (said : Trace) → Told said → Gave said → (out : List ℕ) {n : ℕ} {after : List ℕ}
         → written n after ≡ writtenOf out 0 (printed (ran .verdict) trace bytes (ran .count) (ran .total))
-        → listingOutcome (record { verdict = ran .verdict; len = n; timing = ran .timing }) after ≡ listingOutcomeBy said out t
+        → listingOutcome (record { verdict = ran .verdict; len = n; timing = ran .timing }) after ≡ listingOutcomeBy P said out t
     whole (events es) k e out d =
         let v = ap (λ (o : TraceOutcome). o .ran .verdict) e in
         let c = ap (λ (o : TraceOutcome). o .ran .count) e in
         let s = ap (λ (o : TraceOutcome). o .ran .total) e in
-        rw (v, ap (λ (o : TraceOutcome). o .ran .timing) e) (listed (events es) out t (rw (v, k .0, lines es (k .1 .1) e, c, s) at d))
+        rw (v, ap (λ (o : TraceOutcome). o .ran .timing) e) (listed P (events es) out t (rw (v, k .0, lines es (k .1 .1) e, c, s) at d))
     whole (refused refusal) k e out d =
         let v = ap (λ (o : TraceOutcome). o .ran .verdict) e in
-        rw (v, ap (λ (o : TraceOutcome). o .ran .timing) e) (listed (refused refusal) out t (rw v at d))
+        rw (v, ap (λ (o : TraceOutcome). o .ran .timing) e) (listed P (refused refusal) out t (rw v at d))
 
-  module _ (lent : List ℕ) {bytes : List ℕ} (t : Oep060Timing) {ran : Ran} (e : traceOutcome ran bytes ≡ traceOutcomeOf (shortTraceOf trace) lent t) where
+  module _ (P : Profile) (lent : List ℕ) {bytes : List ℕ} (t : Oep060Timing) {ran : Ran} (e : traceOutcome ran bytes ≡ traceOutcomeOf P (shortTraceOf trace) lent t) where
     pub listed-ready : {room : ℕ} → 13104 ≤ length bytes → 65600 ≤ room → Ready (ran .verdict) trace bytes room
-    listed-ready big r = ready lent bytes t ran (shortTraceOf trace) told e big r
+    listed-ready big r = ready P lent bytes t ran (shortTraceOf trace) told e big r
 
     pub listed-whole : (out : List ℕ) {n : ℕ} {after : List ℕ}
         → written n after ≡ writtenOf out 0 (printed (ran .verdict) trace bytes (ran .count) (ran .total))
-        → listingOutcome (record { verdict = ran .verdict; len = n; timing = ran .timing }) after ≡ listingOutcomeBy (shortTraceOf trace) out t
-    listed-whole out d = whole lent bytes t ran (shortTraceOf trace) told e out d
+        → listingOutcome (record { verdict = ran .verdict; len = n; timing = ran .timing }) after ≡ listingOutcomeBy P (shortTraceOf trace) out t
+    listed-whole out d = whole P lent bytes t ran (shortTraceOf trace) told e out d

@@ -12,6 +12,7 @@ ghost use Prim.Native.Nat.{_≤_};
 ghost use lib.ListN.{length};
 ghost use Rattle.trace.specs.Run.{traceOutcome, traceOutcomeOf};
 ghost use Rattle.listing.specs.Listing.{shortTraceOf, listingOutcome, listTraceOf};
+use profile::Profile;
 use refusals::Ran;
 use refusals::Refusal;
 use refusals::Verdict;
@@ -34,25 +35,26 @@ pub struct Listed {
 }
 
 // Runs a trace of at most so many bytes; a longer one is refused.
-fn run_short(trace: &[u8], costs: &mut [u8], timing: Oep060Timing) -> Ran
+fn run_short(trace: &[u8], costs: &mut [u8], timing: Oep060Timing, profile: Profile) -> Ran
     requires { ⌜ 13104 ≤ length (now costs) ⌝ }
     ensures { λ r. ⌜ traceOutcome r (now (costs .exit))
-        ≡ traceOutcomeOf (shortTraceOf (now (trace .entry))) (now (costs .entry)) timing ⌝ }
+        ≡ traceOutcomeOf profile (shortTraceOf (now (trace .entry))) (now (costs .entry)) timing ⌝ }
 {
     if MOST_LISTED_BYTES < trace.len() {
         return refusals::refused(Refusal::Oversized, timing);
     }
-    trace::run_trace(trace, costs, timing)
+    trace::run_trace(trace, costs, timing, profile)
 }
 
 // Lists a trace into lent bytes that have room for any; the replay's have more.
-pub fn list_into(trace: &[u8], out: &mut [u8], timing: Oep060Timing) -> Listed
+pub fn list_into(trace: &[u8], out: &mut [u8], timing: Oep060Timing, profile: Profile) -> Listed
     requires { ⌜ 65600 ≤ length (now out) ⌝ }
-    ensures { λ r. ⌜ listingOutcome r (now (out .exit)) ≡ listTraceOf (now (trace .entry)) (now (out .entry)) timing ⌝ }
+    ensures { λ r. ⌜ listingOutcome r (now (out .exit))
+        ≡ listTraceOf profile (now (trace .entry)) (now (out .entry)) timing ⌝ }
 {
     // 4 bytes for each retirement that such a trace can have.
     let mut costs = [0u8; 13104];
-    let ran = run_short(trace, &mut costs, timing);
+    let ran = run_short(trace, &mut costs, timing, profile);
     let verdict = ran.verdict;
     let next = ran.timing;
     let len = table::put_text(trace, &costs, out, verdict, ran.count, ran.total);
@@ -64,10 +66,15 @@ pub fn list_into(trace: &[u8], out: &mut [u8], timing: Oep060Timing) -> Listed
 }
 
 // The cost lister's text: its length, and in the lent bytes the text itself; bytes beyond it stay.
-pub fn list_trace(trace: &[u8], text: &mut [u8; LISTING_ROOM], timing: Oep060Timing) -> Listed
+pub fn list_trace(
+    trace: &[u8],
+    text: &mut [u8; LISTING_ROOM],
+    timing: Oep060Timing,
+    profile: Profile,
+) -> Listed
     ensures { λ r. ⌜ listingOutcome r (now (text .exit))
-        ≡ listTraceOf (now (trace .entry)) (now (text .entry)) timing ⌝ }
+        ≡ listTraceOf profile (now (trace .entry)) (now (text .entry)) timing ⌝ }
     ensures { λ r. ⌜ r .len ≤ length (now (text .exit)) ⌝ }
 {
-    list_into(trace, text, timing)
+    list_into(trace, text, timing, profile)
 }

@@ -1,12 +1,40 @@
-// Parts 2 and 3 of document 01 joined: what an opcode is to the pairing window.
+// What an opcode is to the pairing window: parts 2 and 3 of document 01 joined, in the profile that is chosen at start.
 //
-// `instruction_060` calls the groups of the classifier and of `masks` from one match, and equals the two functions that
-// `step` calls apart. `in_place` calls it, since it is faster.
+// `crate_060` calls the groups of the classifier and of `masks` from one match, and equals the two functions that
+// `step` calls apart; `mending` has the rows of document 02's mended profile. `in_place` calls `instruction_060`, since
+// it is faster.
+mod mending;
+
 ghost use mathlib.Core.Path.{_≡_};
-ghost use Rattle.profile.specs.Profile.{joinedOf, crateProfile};
+ghost use Rattle.profile.specs.Profile.{joinedOf, crateProfile, readIn, profileOf, profileAt, numberOf};
 use class_word::Info060;
 use masks::RegMasks060;
 use window::Instruction;
+
+// Chosen at start: document 000's, or document 02's.
+pub enum Profile {
+    Crate,
+    Mended,
+}
+
+// The profile of a number that a host passes: a number that is neither's is the crate's, the default.
+pub fn profile_at(number: u32) -> Profile
+    ensures { λ r. ⌜ r ≡ profileAt number ⌝ }
+{
+    if number == 1 {
+        return Profile::Mended;
+    }
+    Profile::Crate
+}
+
+pub fn number_of(profile: Profile) -> u32
+    ensures { λ r. ⌜ r ≡ numberOf profile ⌝ }
+{
+    match profile {
+        Profile::Crate => 0,
+        Profile::Mended => 1,
+    }
+}
 
 fn joined(word: Info060, masks: RegMasks060) -> Instruction
     ensures { λ r. ⌜ r ≡ joinedOf word masks ⌝ }
@@ -19,7 +47,7 @@ fn joined(word: Info060, masks: RegMasks060) -> Instruction
 }
 
 // The class word and the masks in one match: the group is looked at once.
-pub fn instruction_060(op: u16) -> Instruction
+fn crate_060(op: u16) -> Instruction
     ensures { λ r. ⌜ r ≡ crateProfile op ⌝ }
 {
     match op >> 12 {
@@ -36,4 +64,20 @@ pub fn instruction_060(op: u16) -> Instruction
         0xE => joined(classifier::group14(op), masks::shift_masks(op)),
         _ => joined(classifier::unclassified(), masks::full()),
     }
+}
+
+// What a profile has of an opcode of which the crate's has `i`.
+pub fn read_in(profile: Profile, op: u16, i: Instruction) -> Instruction
+    ensures { λ r. ⌜ r ≡ readIn profile op i ⌝ }
+{
+    match profile {
+        Profile::Crate => i,
+        Profile::Mended => mending::mended_060(op, i),
+    }
+}
+
+pub fn instruction_060(profile: Profile, op: u16) -> Instruction
+    ensures { λ r. ⌜ r ≡ profileOf profile op ⌝ }
+{
+    read_in(profile, op, crate_060(op))
 }

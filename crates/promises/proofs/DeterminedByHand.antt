@@ -45,7 +45,7 @@ module _ (κs : Lifetimes.Lfts 0) where
 module _ (κs : Lifetimes.Lfts 1) where
   pub batch-run-batch-of-64-is : (i : _) (r : _) (x : _)
       → batch-run-batch-of-64.Post κs i r x
-      ≡ BatchOf64Allows (record { records = i .0; count = i .1 .0; places = now (i .1 .1 .0); timing = i .1 .1 .1 .0 }) r (now (x .1 .1 .0))
+      ≡ BatchOf64Allows (record { records = i .0; count = i .1 .0; places = now (i .1 .1 .0); chosen = i .1 .1 .1 .0 }) r (now (x .1 .1 .0))
   batch-run-batch-of-64-is i r x = refl
 
   pub batch-run-batch-of-64-determined : Determined (λ r x. batchOutcome r (now (x .1 .1 .0))) (batch-run-batch-of-64.Post κs)
@@ -60,7 +60,7 @@ module _ (κs : Lifetimes.Lfts 1) {M : Type 1} (𝓤 : URA M) (H : Heap 𝓤) (A
 -- the contract of `run_batch` with the relation for its clause: the clause is that, in any model, and the code meets it
 module _ (κs : Lifetimes.Lfts 2) where
   abbrev pub RunBatchAllows : Args batch-run-batch.signature κs → Res batch-run-batch.signature κs → AtExit batch-run-batch.ended κs → Type 0
-  RunBatchAllows a r e = BatchAllows (record { records = now (a .0); places = now (a .1 .0); timing = a .1 .1 .0 }) r (now (e .1 .0))
+  RunBatchAllows a r e = BatchAllows (record { records = now (a .0); places = now (a .1 .0); chosen = a .1 .1 .0 }) r (now (e .1 .0))
 
   module _ {M : Type 1} (𝓤 : URA M) (H : Heap 𝓤) (A : Atoms 𝓤) (mem : Memory → SProp 𝓤) (run : Routine → Fun 𝓤) where
     pub batch-run-batch-is : (a : Args batch-run-batch.signature κs) (r : Res batch-run-batch.signature κs) (e : AtExit batch-run-batch.ended κs)

@@ -6,6 +6,7 @@ use Rattle.promises.specs.Determined.{Determined, result}
 use Rattle.classifier.proofs.group0.Reads as classifier-group0
 use Rattle.classifier.proofs.move_060.Reads as classifier-move-060
 use Rattle.classifier.proofs.group4.Reads as classifier-group4
+use Rattle.classifier.proofs.lea_060.Reads as classifier-lea-060
 use Rattle.classifier.proofs.group5.Reads as classifier-group5
 use Rattle.classifier.proofs.group6.Reads as classifier-group6
 use Rattle.classifier.proofs.group7.Reads as classifier-group7
@@ -21,6 +22,9 @@ use Rattle.masks.proofs.dyadic_masks.Reads as masks-dyadic-masks
 use Rattle.masks.proofs.quick_masks.Reads as masks-quick-masks
 use Rattle.masks.proofs.shift_masks.Reads as masks-shift-masks
 use Rattle.masks.proofs.group4_masks.Reads as masks-group4-masks
+use Rattle.profile.proofs.profile_at.Reads as profile-profile-at
+use Rattle.profile.proofs.number_of.Reads as profile-number-of
+use Rattle.profile.proofs.read_in.Reads as profile-read-in
 use Rattle.profile.proofs.instruction_060.Reads as profile-instruction-060
 
 module _ (κs : Lifetimes.Lfts 0) where
@@ -32,6 +36,9 @@ module _ (κs : Lifetimes.Lfts 0) where
 
   pub classifier-group4-determined : Determined result (classifier-group4.Post κs)
   classifier-group4-determined i r r′ x x′ p q = p ∙ sym q
+
+  pub classifier-lea-060-determined : Determined result (classifier-lea-060.Post κs)
+  classifier-lea-060-determined i r r′ x x′ p q = p ∙ sym q
 
   pub classifier-group5-determined : Determined result (classifier-group5.Post κs)
   classifier-group5-determined i r r′ x x′ p q = p ∙ sym q
@@ -77,6 +84,15 @@ module _ (κs : Lifetimes.Lfts 0) where
 
   pub masks-group4-masks-determined : Determined result (masks-group4-masks.Post κs)
   masks-group4-masks-determined i r r′ x x′ p q = p ∙ sym q
+
+  pub profile-profile-at-determined : Determined result (profile-profile-at.Post κs)
+  profile-profile-at-determined i r r′ x x′ p q = p ∙ sym q
+
+  pub profile-number-of-determined : Determined result (profile-number-of.Post κs)
+  profile-number-of-determined i r r′ x x′ p q = p ∙ sym q
+
+  pub profile-read-in-determined : Determined result (profile-read-in.Post κs)
+  profile-read-in-determined i r r′ x x′ p q = p ∙ sym q
 
   pub profile-instruction-060-determined : Determined result (profile-instruction-060.Post κs)
   profile-instruction-060-determined i r r′ x x′ p q = p ∙ sym q

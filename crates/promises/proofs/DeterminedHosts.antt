@@ -9,6 +9,7 @@ use Rattle.in_place.specs.Lent.{lent}
 use Rattle.in_place.specs.Retire.{paid}
 use Rattle.host.specs.HostRan.{hostOutcome}
 use Rattle.host.specs.HostImages.{hostImage, hostState}
+use Rattle.profile.specs.declared.Profile.the-variants.{Crate}
 use Rattle.promises.specs.Determined.{Determined, result}
 use Rattle.host.proofs.timing_060_fresh_at.Reads as host-timing-060-fresh-at
 use Rattle.host.proofs.timing_060_retire_at.Reads as host-timing-060-retire-at
@@ -35,14 +36,14 @@ module _ (κs : Lifetimes.Lfts 0) where
 
 module _ (κs : Lifetimes.Lfts 1) where
   pub host-timing-060-break-at-determined : Determined (λ r x. lent [] [] (now (x .0))) (host-timing-060-break-at.Post κs)
-  host-timing-060-break-at-determined i r r′ x x′ p q = p [] [] ∙ sym (q [] [])
+  host-timing-060-break-at-determined i r r′ x x′ p q = p Crate [] [] ∙ sym (q Crate [] [])
 
 module _ (κs : Lifetimes.Lfts 2) where
   pub host-timing-060-clear-all-at-determined : Determined (λ r x. lent [] (now (x .0)) (now (x .1 .0))) (host-timing-060-clear-all-at.Post κs)
-  host-timing-060-clear-all-at-determined i r r′ x x′ p q = p [] ∙ sym (q [])
+  host-timing-060-clear-all-at-determined i r r′ x x′ p q = p Crate [] ∙ sym (q Crate [])
 
   pub host-timing-060-clear-user-at-determined : Determined (λ r x. lent [] (now (x .0)) (now (x .1 .0))) (host-timing-060-clear-user-at.Post κs)
-  host-timing-060-clear-user-at-determined i r r′ x x′ p q = p [] ∙ sym (q [])
+  host-timing-060-clear-user-at-determined i r r′ x x′ p q = p Crate [] ∙ sym (q Crate [])
 
 module _ (κs : Lifetimes.Lfts 3) where
   pub host-timing-060-fresh-at-determined : Determined (λ r x. lent (now (x .0)) (now (x .1 .0)) (now (x .1 .1 .0))) (host-timing-060-fresh-at.Post κs)

@@ -6,6 +6,7 @@ use contract.Lifetimes
 use denote.Ref.{now}
 use Rattle.in_place.specs.Lent.{lent}
 use Rattle.in_place.specs.Retire.{paid}
+use Rattle.profile.specs.declared.Profile.the-variants.{Crate}
 use Rattle.promises.specs.Determined.{Determined, result}
 use Rattle.in_place.proofs.window_at.Reads as in-place-window-at
 use Rattle.in_place.proofs.put_window.Reads as in-place-put-window
@@ -63,7 +64,7 @@ module _ (κs : Lifetimes.Lfts 3) where
 
 module _ (κs : Lifetimes.Lfts 2) where
   pub in-place-clear-all-at-determined : Determined (λ r x. lent [] (now (x .0)) (now (x .1 .0))) (in-place-clear-all-at.Post κs)
-  in-place-clear-all-at-determined i r r′ x x′ p q = p [] ∙ sym (q [])
+  in-place-clear-all-at-determined i r r′ x x′ p q = p Crate [] ∙ sym (q Crate [])
 
   pub in-place-clear-user-at-determined : Determined (λ r x. lent [] (now (x .0)) (now (x .1 .0))) (in-place-clear-user-at.Post κs)
-  in-place-clear-user-at-determined i r r′ x x′ p q = p [] ∙ sym (q [])
+  in-place-clear-user-at-determined i r r′ x x′ p q = p Crate [] ∙ sym (q Crate [])

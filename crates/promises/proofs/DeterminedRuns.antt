@@ -1,12 +1,20 @@
 -- The promise of each public function of part 6 of document 01, as the checker reads it, allows one answer at each input, lent bytes included.
 -- Assumes nothing.
-use mathlib.Core.Path.{sym, _∙_}
+use mathlib.Core.Path.{_≡_, refl, sym, ap, _∙_}
+use mathlib.Core.List.{List}
+use Prim.Native.Nat.{ℕ}
+use native.Mathlib.Omega.{arith}
+use lib.ListN.{length}
 use contract.Lifetimes
 use denote.Ref.{now}
 use Rattle.trace.specs.Run.{traceOutcome}
 use Rattle.image.specs.Entries.{imageOutcome}
 use Rattle.text.specs.Written.{written}
 use Rattle.listing.specs.Listing.{listingOutcome}
+use Rattle.profile.specs.declared.Profile.the-variants.{Crate, Mended}
+use Rattle.input.specs.declared.words.Word.{Word}
+use Rattle.input.specs.declared.words.Word.the-variants.{Named, Unknown}
+use Rattle.input.specs.Words.{Names, CRATE, MENDED}
 use Rattle.promises.specs.Determined.{Determined, result}
 use Rattle.little_endian.proofs.u16_at.Reads as little-endian-u16-at
 use Rattle.little_endian.proofs.u32_at.Reads as little-endian-u32-at
@@ -20,6 +28,7 @@ use Rattle.in_place.proofs.see_window.Reads as in-place-see-window
 use Rattle.trace.proofs.run_trace.Reads as trace-run-trace
 use Rattle.image.proofs.image_write.Reads as image-image-write
 use Rattle.image.proofs.image_read.Reads as image-image-read
+use Rattle.input.proofs.profile_named.Reads as input-profile-named
 use Rattle.text.proofs.put_bytes.Reads as text-put-bytes
 use Rattle.text.proofs.put_hex4.Reads as text-put-hex4
 use Rattle.text.proofs.put_hex2.Reads as text-put-hex2
@@ -41,7 +50,25 @@ module _ (κs : Lifetimes.Lfts 0) where
   pub little-endian-i32-of-determined : Determined result (little-endian-i32-of.Post κs)
   little-endian-i32-of-determined i r r′ x x′ p q = p ∙ sym q
 
+-- a word names one thing: the two words differ, and nothing is both named and unknown
+words-differ : CRATE ≡ MENDED → ⊥
+words-differ e = absurd (omega (arith, ap length e))
+
+names-one : (word : List ℕ) (w w′ : Word) → Names word w → Names word w′ → w ≡ w′
+names-one word (Named Crate) (Named Crate) p q = refl
+names-one word (Named Mended) (Named Mended) p q = refl
+names-one word Unknown Unknown p q = refl
+names-one word (Named Crate) (Named Mended) p q = absurd (words-differ (sym p ∙ q))
+names-one word (Named Mended) (Named Crate) p q = absurd (words-differ (sym q ∙ p))
+names-one word (Named Crate) Unknown p q = absurd (q .0 p)
+names-one word (Named Mended) Unknown p q = absurd (q .1 p)
+names-one word Unknown (Named Crate) p q = absurd (p .0 q)
+names-one word Unknown (Named Mended) p q = absurd (p .1 q)
+
 module _ (κs : Lifetimes.Lfts 1) where
+  pub input-profile-named-determined : Determined result (input-profile-named.Post κs)
+  input-profile-named-determined i r r′ x x′ p q = names-one (now (i .0)) r r′ p q
+
   pub little-endian-u16-at-determined : Determined result (little-endian-u16-at.Post κs)
   little-endian-u16-at-determined i r r′ x x′ p q = p ∙ sym q
 

@@ -6,10 +6,11 @@ use mathlib.Core.Bool.{Bool, true, false, true≢false, cond}
 use mathlib.Core.Option.{none, some}
 use Rattle.class_word.specs.Word.{clocks, has, BRANCH}
 use Rattle.window.specs.declared.dispatch.Instruction.{Instruction}
-use Rattle.profile.specs.Profile.{crateProfile}
+use Rattle.profile.specs.declared.Profile.{Profile}
+use Rattle.profile.specs.Profile.{profileOf}
 use Rattle.state.specs.declared.Oep060Timing.{Oep060Timing}
 use Rattle.state.specs.declared.Retirement.{Retirement}
-use Rattle.step.specs.CrateBoard.{steppedOf}
+use Rattle.step.specs.Boards.{steppedOf}
 use Rattle.promises.specs.Factors.{BranchFactors, Factors, factorsOf, branchFactorsOf, coarse, ofBranch, SameChange, SameStep}
 use Rattle.promises.proofs.FactorsCost.{costFrom, windowFrom}
 use Rattle.promises.proofs.FactorsCache.{byteFrom, changed}
@@ -28,36 +29,36 @@ module _ (i : Instruction) (f : Factors) (x : BranchFactors) where
   branch-byte true e = refl
   branch-byte false e = absurd (true≢false (sym e))
 
-abbrev Branches : ℕ → Type 0
-Branches op = has (crateProfile op .word .0) BRANCH ≡ true
+abbrev Branches : Profile → ℕ → Type 0
+Branches P op = has (profileOf P op .word .0) BRANCH ≡ true
 
-module _ (t : Oep060Timing) (r : Retirement) (h : Branches (r .op)) where
+module _ (P : Profile) (t : Oep060Timing) (r : Retirement) (h : Branches P (r .op)) where
   abbrev x : BranchFactors
   x = branchFactorsOf (t .cache) (r .controls)
 
-  b-cost : steppedOf t r .cost ≡ costOn (ofBranch (factorsOf t r))
-  b-cost = step-cost t r ∙ ap clocks (branch-cost (crateProfile (r .op)) (factorsOf t r) x _ h)
+  b-cost : steppedOf P t r .cost ≡ costOn P (ofBranch (factorsOf P t r))
+  b-cost = step-cost P t r ∙ ap clocks (branch-cost (profileOf P (r .op)) (factorsOf P t r) x _ h)
 
-  b-window : steppedOf t r .timing .window ≡ windowOn (ofBranch (factorsOf t r))
-  b-window = step-window t r ∙ branch-window (crateProfile (r .op)) (factorsOf t r) x _ h
+  b-window : steppedOf P t r .timing .window ≡ windowOn P (ofBranch (factorsOf P t r))
+  b-window = step-window P t r ∙ branch-window (profileOf P (r .op)) (factorsOf P t r) x _ h
 
-  b-cache : steppedOf t r .timing .cache ≡ changed (t .cache) (r .controls .ppc) (byteOn (ofBranch (factorsOf t r)))
-  b-cache = step-cache t r ∙ ap (changed (t .cache) (r .controls .ppc)) (branch-byte (crateProfile (r .op)) (factorsOf t r) x _ h)
+  b-cache : steppedOf P t r .timing .cache ≡ changed (t .cache) (r .controls .ppc) (byteOn P (ofBranch (factorsOf P t r)))
+  b-cache = step-cache P t r ∙ ap (changed (t .cache) (r .controls .ppc)) (branch-byte (profileOf P (r .op)) (factorsOf P t r) x _ h)
 
-module _ (t t' : Oep060Timing) (r r' : Retirement) (h : Branches (r .op)) (e : ofBranch (factorsOf t r) ≡ ofBranch (factorsOf t' r')) where
-  h' : Branches (r' .op)
-  h' = subst (λ (f : Factors). Branches (f .op)) e h
+module _ (P : Profile) (t t' : Oep060Timing) (r r' : Retirement) (h : Branches P (r .op)) (e : ofBranch (factorsOf P t r) ≡ ofBranch (factorsOf P t' r')) where
+  h' : Branches P (r' .op)
+  h' = subst (λ (f : Factors). Branches P (f .op)) e h
 
-  b-change : SameChange t t' r r'
+  b-change : SameChange P t t' r r'
   b-change =
-      change-by t t' r r' (byteOn (ofBranch (factorsOf t' r')))
-      (b-cache t r h ∙ ap (λ (f : Factors). changed (t .cache) (r .controls .ppc) (byteOn f)) e) (b-cache t' r' h')
+      change-by P t t' r r' (byteOn P (ofBranch (factorsOf P t' r')))
+      (b-cache P t r h ∙ ap (λ (f : Factors). changed (t .cache) (r .controls .ppc) (byteOn P f)) e) (b-cache P t' r' h')
 
-  pub same-branch : SameStep t t' r r'
+  pub same-branch : SameStep P t t' r r'
   same-branch =
       record {
-        cost = b-cost t r h ∙ ap costOn e ∙ sym (b-cost t' r' h');
-        window = b-window t r h ∙ ap windowOn e ∙ sym (b-window t' r' h');
+        cost = b-cost P t r h ∙ ap (costOn P) e ∙ sym (b-cost P t' r' h');
+        window = b-window P t r h ∙ ap (windowOn P) e ∙ sym (b-window P t' r' h');
         cache = b-change;
-        slots = slots-by t t' r r' b-change;
+        slots = slots-by P t t' r r' b-change;
       }

@@ -18,7 +18,8 @@ use Rattle.branch_cache.proofs.Laws.{put-back, put-same, put-other}
 use Rattle.window.specs.declared.dispatch.Instruction.{Instruction}
 use Rattle.window.specs.declared.dispatch.Controls.{Controls}
 use Rattle.cost.specs.Branch.{takenOf}
-use Rattle.profile.specs.Profile.{crateProfile}
+use Rattle.profile.specs.declared.Profile.{Profile}
+use Rattle.profile.specs.Profile.{profileOf}
 use Rattle.state.specs.declared.Oep060Timing.{Oep060Timing}
 use Rattle.state.specs.declared.Retirement.{Retirement}
 use Rattle.state.specs.Events.{cacheAfter}
@@ -58,9 +59,9 @@ module _ (c : BranchCache060) (pc : ℕ) (user : Bool) where
   unfolding updateOf
   update-is taken = put-by (hitOf (met c pc) pc) taken refl
 
-module _ (t : Oep060Timing) (r : Retirement) where
+module _ (P : Profile) (t : Oep060Timing) (r : Retirement) where
   abbrev i : Instruction
-  i = crateProfile (r .op)
+  i = profileOf P (r .op)
 
   abbrev k : Controls
   k = r .controls
@@ -69,7 +70,7 @@ module _ (t : Oep060Timing) (r : Retirement) where
   c = t .cache
 
   abbrev F : Factors
-  F = coarse (factorsOf t r)
+  F = coarse (factorsOf P t r)
 
   asked-by : (asked taken : Bool)
       → cond asked (cacheUpdateOf c (k .ppc) taken (not (k .supervisor))) c

@@ -21,7 +21,8 @@ use Rattle.cost.specs.Retiring.{branch, flow, neither, otherPoint, pointOf}
 use Rattle.cost.specs.Branch.{takenOf, branchCost}
 use Rattle.cost.specs.Cost.{plainOf, baseOf, pairs, headOf, costBy, windowBy, costOf, windowOf}
 use Rattle.cost.proofs.Seen.{seen-cost, seen-window}
-use Rattle.profile.specs.Profile.{crateProfile}
+use Rattle.profile.specs.declared.Profile.{Profile}
+use Rattle.profile.specs.Profile.{profileOf}
 use Rattle.state.specs.declared.Oep060Timing.{Oep060Timing}
 use Rattle.state.specs.declared.Retirement.{Retirement}
 use Rattle.state.specs.Events.{heard, answerOf, asMet}
@@ -68,9 +69,9 @@ one-is : (b : Bool) → not (not b) ≡ eqb (cond b 0 1) 0
 one-is true = refl
 one-is false = refl
 
-module _ (t : Oep060Timing) (r : Retirement) where
+module _ (P : Profile) (t : Oep060Timing) (r : Retirement) where
   abbrev i : Instruction
-  i = crateProfile (r .op)
+  i = profileOf P (r .op)
 
   abbrev k : Controls
   k = r .controls
@@ -79,7 +80,7 @@ module _ (t : Oep060Timing) (r : Retirement) where
   w = seen (t .window)
 
   abbrev F : Factors
-  F = coarse (factorsOf t r)
+  F = coarse (factorsOf P t r)
 
   joins-is : pairs i k w ≡ joinsBy i F
   unfolding pairs

@@ -7,10 +7,11 @@ use mathlib.Core.Option.{Option, none, some}
 use native.Mathlib.Omega.{arith}
 use Rattle.class_word.specs.Word.{has, VARIABLE, UNCLASSIFIED, clocksOf, «EA_INDEXED»}
 use Rattle.window.specs.declared.dispatch.Instruction.{Instruction}
-use Rattle.profile.specs.Profile.{crateProfile}
+use Rattle.profile.specs.declared.Profile.{Profile}
+use Rattle.profile.specs.Profile.{profileOf}
 use Rattle.state.specs.declared.Oep060Timing.{Oep060Timing}
 use Rattle.state.specs.declared.Retirement.{Retirement}
-use Rattle.step.specs.CrateBoard.{steppedOf}
+use Rattle.step.specs.Boards.{steppedOf}
 use Rattle.promises.specs.Factors.{BranchFactors, Factors, factorsOf, coarse, withFallback, Form, constant, apart, floored, charged, SameChange}
 use Rattle.promises.proofs.FactorsCost.{costFrom, windowFrom, joinsBy}
 use Rattle.promises.proofs.FactorsCache.{byteFrom, changed}
@@ -49,17 +50,17 @@ byte-with : (i : Instruction) (f : Factors) (o : Option BranchFactors) → byteF
 byte-with i f none = refl
 byte-with i f (some b) = refl
 
-module _ (t t' : Oep060Timing) (r r' : Retirement) (e : withFallback (coarse (factorsOf t r)) 0 ≡ withFallback (coarse (factorsOf t' r')) 0) where
+module _ (P : Profile) (t t' : Oep060Timing) (r r' : Retirement) (e : withFallback (coarse (factorsOf P t r)) 0 ≡ withFallback (coarse (factorsOf P t' r')) 0) where
   abbrev G' : Factors
-  G' = withFallback (coarse (factorsOf t' r')) 0
+  G' = withFallback (coarse (factorsOf P t' r')) 0
 
-  pub f-window : steppedOf t r .timing .window ≡ steppedOf t' r' .timing .window
+  pub f-window : steppedOf P t r .timing .window ≡ steppedOf P t' r' .timing .window
   f-window =
-      step-window t r ∙ window-with (crateProfile (r .op)) (coarse (factorsOf t r)) (factorsOf t r .branch) ∙ ap windowOn e ∙ sym (window-with (crateProfile (r' .op)) (coarse (factorsOf t' r')) (factorsOf t' r' .branch)) ∙ sym (step-window t' r')
+      step-window P t r ∙ window-with (profileOf P (r .op)) (coarse (factorsOf P t r)) (factorsOf P t r .branch) ∙ ap (windowOn P) e ∙ sym (window-with (profileOf P (r' .op)) (coarse (factorsOf P t' r')) (factorsOf P t' r' .branch)) ∙ sym (step-window P t' r')
 
-  pub f-change : SameChange t t' r r'
+  pub f-change : SameChange P t t' r r'
   f-change =
-      change-by t t' r r' (byteOn G')
-      (step-cache t r ∙ ap (changed (t .cache) (r .controls .ppc)) (byte-with (crateProfile (r .op)) (coarse (factorsOf t r)) (factorsOf t r .branch))
-      ∙ ap (λ (f : Factors). changed (t .cache) (r .controls .ppc) (byteOn f)) e)
-      (step-cache t' r' ∙ ap (changed (t' .cache) (r' .controls .ppc)) (byte-with (crateProfile (r' .op)) (coarse (factorsOf t' r')) (factorsOf t' r' .branch)))
+      change-by P t t' r r' (byteOn P G')
+      (step-cache P t r ∙ ap (changed (t .cache) (r .controls .ppc)) (byte-with (profileOf P (r .op)) (coarse (factorsOf P t r)) (factorsOf P t r .branch))
+      ∙ ap (λ (f : Factors). changed (t .cache) (r .controls .ppc) (byteOn P f)) e)
+      (step-cache P t' r' ∙ ap (changed (t' .cache) (r' .controls .ppc)) (byte-with (profileOf P (r' .op)) (coarse (factorsOf P t' r')) (factorsOf P t' r' .branch)))

@@ -8,11 +8,12 @@ use Rattle.class_word.specs.Word.{clocks}
 use Rattle.branch_cache.specs.declared.BranchCache060.{BranchCache060}
 use Rattle.branch_cache.specs.Cache.{slotAt}
 use Rattle.window.specs.declared.Window.{Window}
-use Rattle.profile.specs.Profile.{crateProfile}
+use Rattle.profile.specs.declared.Profile.{Profile}
+use Rattle.profile.specs.Profile.{profileOf}
 use Rattle.state.specs.declared.Oep060Timing.{Oep060Timing}
 use Rattle.state.specs.declared.Retirement.{Retirement}
 use Rattle.state.specs.Timing.{steppedBy}
-use Rattle.step.specs.CrateBoard.{steppedOf}
+use Rattle.step.specs.Boards.{steppedOf}
 use Rattle.image.specs.Image.{InRange}
 use Rattle.promises.specs.Factors.{Factors, factorsOf, coarse, holding, SameChange, kept, put, SameStep}
 use Rattle.promises.proofs.FactorsCost.{costFrom, windowFrom, cost-is, window-is}
@@ -20,39 +21,39 @@ use Rattle.promises.proofs.FactorsCache.{byteFrom, changed, cache-is, h
 
 -- the step, made of factors
 
-abbrev pub costOn : Factors → Clocks
-costOn f = clocks (costFrom (crateProfile (f .op)) f (f .branch))
+abbrev pub costOn : Profile → Factors → Clocks
+costOn P f = clocks (costFrom (profileOf P (f .op)) f (f .branch))
 
-abbrev pub windowOn : Factors → Window
-windowOn f = windowFrom (crateProfile (f .op)) f (f .branch)
+abbrev pub windowOn : Profile → Factors → Window
+windowOn P f = windowFrom (profileOf P (f .op)) f (f .branch)
 
-abbrev pub byteOn : Factors → Option ℕ
-byteOn f = byteFrom (crateProfile (f .op)) f (f .branch)
+abbrev pub byteOn : Profile → Factors → Option ℕ
+byteOn P f = byteFrom (profileOf P (f .op)) f (f .branch)
 
-module _ (t : Oep060Timing) (r : Retirement) where
-  pub step-cost : steppedOf t r .cost ≡ costOn (coarse (factorsOf t r))
+module _ (P : Profile) (t : Oep060Timing) (r : Retirement) where
+  pub step-cost : steppedOf P t r .cost ≡ costOn P (coarse (factorsOf P t r))
   unfolding steppedBy
-  step-cost = ap clocks (cost-is t r)
+  step-cost = ap clocks (cost-is P t r)
 
-  pub step-window : steppedOf t r .timing .window ≡ windowOn (coarse (factorsOf t r))
+  pub step-window : steppedOf P t r .timing .window ≡ windowOn P (coarse (factorsOf P t r))
   unfolding steppedBy
-  step-window = window-is t r
+  step-window = window-is P t r
 
-  pub step-cache : steppedOf t r .timing .cache ≡ changed (t .cache) (r .controls .ppc) (byteOn (coarse (factorsOf t r)))
+  pub step-cache : steppedOf P t r .timing .cache ≡ changed (t .cache) (r .controls .ppc) (byteOn P (coarse (factorsOf P t r)))
   unfolding steppedBy
-  step-cache = cache-is t r
+  step-cache = cache-is P t r
 
 -- two steps
 
-module _ (t t' : Oep060Timing) (r r' : Retirement) where
-  pub change-by : (o : Option ℕ) → steppedOf t r .timing .cache ≡ changed (t .cache) (r .controls .ppc) o
-      → steppedOf t' r' .timing .cache ≡ changed (t' .cache) (r' .controls .ppc) o → SameChange t t' r r'
+module _ (P : Profile) (t t' : Oep060Timing) (r r' : Retirement) where
+  pub change-by : (o : Option ℕ) → steppedOf P t r .timing .cache ≡ changed (t .cache) (r .controls .ppc) o
+      → steppedOf P t' r' .timing .cache ≡ changed (t' .cache) (r' .controls .ppc) o → SameChange P t t' r r'
   change-by none p q = kept p q
   change-by (some byte) p q = put byte p q
 
-  pub slots-by : SameChange t t' r r' → r .controls .ppc ≡ r' .controls .ppc → InRange t → InRange t' → (n : ℕ)
+  pub slots-by : SameChange P t t' r r' → r .controls .ppc ≡ r' .controls .ppc → InRange t → InRange t' → (n : ℕ)
       → slotAt (t .cache) n ≡ slotAt (t' .cache) n
-      → slotAt (steppedOf t r .timing .cache) n ≡ slotAt (steppedOf t' r' .timing .cache) n
+      → slotAt (steppedOf P t r .timing .cache) n ≡ slotAt (steppedOf P t' r' .timing .cache) n
   slots-by (kept p q) at ok ok' n e = ap (λ (c : BranchCache060). slotAt c n) p ∙ e ∙ sym (ap (λ (c : BranchCache060). slotAt c n) q)
   slots-by (put byte p q) at ok ok' n e =
       ap (λ (c : BranchCache060). slotAt c n) p
@@ -60,17 +61,17 @@ module _ (t t' : Oep060Timing) (r r' : Retirement) where
       ∙ ap (λ (pc : ℕ). slotAt (holding (t' .cache) pc byte) n) at
       ∙ sym (ap (λ (c : BranchCache060). slotAt c n) q)
 
-  module _ (e : coarse (factorsOf t r) ≡ coarse (factorsOf t' r')) where
-    same-change : SameChange t t' r r'
+  module _ (e : coarse (factorsOf P t r) ≡ coarse (factorsOf P t' r')) where
+    same-change : SameChange P t t' r r'
     same-change =
-        change-by (byteOn (coarse (factorsOf t' r')))
-        (step-cache t r ∙ ap (λ (f : Factors). changed (t .cache) (r .controls .ppc) (byteOn f)) e) (step-cache t' r')
+        change-by (byteOn P (coarse (factorsOf P t' r')))
+        (step-cache P t r ∙ ap (λ (f : Factors). changed (t .cache) (r .controls .ppc) (byteOn P f)) e) (step-cache P t' r')
 
-    pub same-step : SameStep t t' r r'
+    pub same-step : SameStep P t t' r r'
     same-step =
         record {
-          cost = step-cost t r ∙ ap costOn e ∙ sym (step-cost t' r');
-          window = step-window t r ∙ ap windowOn e ∙ sym (step-window t' r');
+          cost = step-cost P t r ∙ ap (costOn P) e ∙ sym (step-cost P t' r');
+          window = step-window P t r ∙ ap (windowOn P) e ∙ sym (step-window P t' r');
           cache = same-change;
           slots = slots-by same-change;
         }

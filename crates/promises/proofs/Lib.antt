@@ -26,3 +26,5 @@ pub mod FactorsStep
 pub mod FactorsBranch
 pub mod FactorsFallback
 pub mod Factors
+pub mod OverPairing
+pub mod Profiles

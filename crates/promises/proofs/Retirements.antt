@@ -11,25 +11,26 @@ use Rattle.window.specs.Windows.{shut}
 use Rattle.cost.specs.Cost.{costOf}
 use Rattle.window.proofs.Rules.{passes-simple}
 use Rattle.cost.proofs.Zero.{pair-cost, pair-costs-nothing}
+use Rattle.profile.specs.declared.Profile.{Profile}
 use Rattle.state.specs.declared.Oep060Timing.{Oep060Timing}
 use Rattle.state.specs.declared.Stepped.{Stepped}
 use Rattle.state.specs.declared.Event.the-variants.{Retired}
 use Rattle.state.specs.Events.{retiringOf}
 use Rattle.state.specs.Timing.{stateOf, steppedBy}
-use Rattle.step.specs.CrateBoard.{crateBoard, steppedOf, afterOf}
+use Rattle.step.specs.Boards.{boardOf, afterOf}
 use Rattle.step.proofs.cycles_060.Reads as reads
 use Rattle.promises.specs.Retirements.{EveryEvent}
 use Rattle.promises.specs.Demand3.{joins, folds}
-use Rattle.promises.proofs.Demand.{crate-sound, crate-demand3}
+use Rattle.promises.proofs.Demand.{profile-sound, board-demand3}
 
-pub every-event : EveryEvent
+pub every-event : (P : Profile) → EveryEvent P
 unfolding steppedBy
-every-event =
+every-event P =
     record {
       stepCost = λ t r. refl;
       stepState = λ t r. refl;
       pairCost = λ r p. pair-cost r (p .straight) (p .kept) (p .waiting) (p .passed);
-      pairCostsNothing = λ t r p. pair-costs-nothing (retiringOf crateBoard (stateOf t) r) (crate-sound (r .op)) (p .kept) (p .waiting) (p .passed);
+      pairCostsNothing = λ t r p. pair-costs-nothing (retiringOf (boardOf P) (stateOf t) r) (profile-sound P (r .op)) (p .kept) (p .waiting) (p .passed);
       passingClass = λ i k w p. passes-simple i k w p .class0;
       passingUnindexed = λ i k w p. passes-simple i k w p .unindexed;
       passingClassified = λ i k w p. passes-simple i k w p .classified;
@@ -46,21 +47,21 @@ every-event =
 
 -- whatever `cycles_060` may hand back is the machine's cost and next state, so demand 3 is about it: here its first two sentences
 module _ (κs : Lifetimes.Lfts 0) (a : _) (o : _) (x : _) (p : reads.Post κs a o x) where
-  pub cycles-cost : o .cost ≡ clocks (costOf (retiringOf crateBoard (stateOf (a .0)) (a .1 .0)))
+  pub cycles-cost : o .cost ≡ clocks (costOf (retiringOf (boardOf (a .1 .0)) (stateOf (a .0)) (a .1 .1 .0)))
   unfolding steppedBy
   cycles-cost = ap (λ (s : Stepped). s .cost) p
 
-  pub cycles-state : o .timing ≡ afterOf (a .0) (Retired (a .1 .0))
+  pub cycles-state : o .timing ≡ afterOf (a .1 .0) (a .0) (Retired (a .1 .1 .0))
   unfolding steppedBy
   cycles-state = ap (λ (s : Stepped). s .timing) p
 
   pub cycles-zero : (o .cost ≡ clocks 0)
-      ↔ ((a .0 .window .opened && (joins crateBoard (stateOf (a .0)) (a .1 .0) || folds crateBoard (stateOf (a .0)) (a .1 .0))) ≡ true)
+      ↔ ((a .0 .window .opened && (joins (boardOf (a .1 .0)) (stateOf (a .0)) (a .1 .1 .0) || folds (boardOf (a .1 .0)) (stateOf (a .0)) (a .1 .1 .0))) ≡ true)
   cycles-zero =
-      let zero = crate-demand3 .zeroExactly (stateOf (a .0)) (a .1 .0) in
+      let zero = board-demand3 (a .1 .0) .zeroExactly (stateOf (a .0)) (a .1 .1 .0) in
       (λ z. zero .0 (ap (λ (c : Clocks). c .0) (sym cycles-cost ∙ z)), λ h. cycles-cost ∙ ap clocks (zero .1 h))
 
   pub cycles-zero-shuts : o .cost ≡ clocks 0 → o .timing .window ≡ shut
   cycles-zero-shuts z =
       ap (λ (t : Oep060Timing). t .window) cycles-state
-      ∙ crate-demand3 .thenShut (stateOf (a .0)) (a .1 .0) (ap (λ (c : Clocks). c .0) (sym cycles-cost ∙ z))
+      ∙ board-demand3 (a .1 .0) .thenShut (stateOf (a .0)) (a .1 .1 .0) (ap (λ (c : Clocks). c .0) (sym cycles-cost ∙ z))

@@ -4,24 +4,26 @@
 -- equal factors cost the same, leave the same window, and do the same to the cache, each at its own address; at one
 -- address the states then differ only where they differed before.
 --
---   Factors               ==  the factors, in this order
---   BranchFactors         ==  the last three, which only a branch has
---   touchedOf i w         ==  the registers that the head of w defines, and that the follower i uses or defines
---   branchFactorsOf c k   ==  the factors of a branch with the controls k, the cache being c: byte and tag are those of
---                             the slot that ppc goes to, and ppc + 4 is taken modulo 2^32
---   factorsOf t r         ==  the factors of the retirement r in the state t, whose window is taken as it is read
---   but f m c d e n       ==  the factors f, but for touched m, CCR c, memory d, cached e and the fallback n
---   oneFor touched        ==  one register for any set of them, and none for none
---   coarse f              ==  the factors f, in which one register stands for any that are touched
---   ofBranch f            ==  the factors f as a branch has them: of the window only whether it is open, and no fallback
---   withFallback f n      ==  the factors f with the fallback n
---   Form                  ==  how the fallback enters a cost: `constant`, not at all; `apart`, with so much more and less;
---                             `floored`, the larger of it and 5
---   charged form n        ==  the cost of this form, the fallback being n
---   holding c ppc byte    ==  the cache c with this byte, under the tag ppc, in the slot that ppc goes to
---   SameChange t t' r r'  ==  what r does to the cache of t, r' does to that of t'
---   SameStep t t' r r'    ==  r in t and r' in t' cost the same, leave the same window, and do the same to the cache
---   EqualFactors          ==  the facts, each for every two states and retirements
+-- In each, p is the profile.
+--   Factors                 ==  the factors, in this order
+--   BranchFactors           ==  the last three, which only a branch has
+--   touchedOf i w           ==  the registers that the head of w defines, and that the follower i uses or defines
+--   branchFactorsOf c k     ==  the factors of a branch with the controls k, the cache being c: byte and tag are those
+--                               of the slot that ppc goes to, and ppc + 4 is taken modulo 2^32
+--   factorsOf p t r         ==  the factors of the retirement r in the state t, whose window is taken as it is read
+--   but f m c d e n         ==  the factors f, but for touched m, CCR c, memory d, cached e and the fallback n
+--   oneFor touched          ==  one register for any set of them, and none for none
+--   coarse f                ==  the factors f, in which one register stands for any that are touched
+--   ofBranch f              ==  the factors f as a branch has them: of the window only whether it is open, and no
+--                               fallback
+--   withFallback f n        ==  the factors f with the fallback n
+--   Form                    ==  how the fallback enters a cost: `constant`, not at all; `apart`, with so much more and
+--                               less; `floored`, the larger of it and 5
+--   charged form n          ==  the cost of this form, the fallback being n
+--   holding c ppc byte      ==  the cache c with this byte, under the tag ppc, in the slot that ppc goes to
+--   SameChange p t t' r r'  ==  what r does to the cache of t, r' does to that of t'
+--   SameStep p t t' r r'    ==  r in t and r' in t' cost the same, leave the same window, and do the same to the cache
+--   EqualFactors p          ==  the facts, each for every two states and retirements
 --
 -- `InRange t` says what the code's types hold always: arrays of 256 elements, and numbers that fit.
 use Prim.Native.Nat.{ℕ, _+_, _-_, _%_, _^_, max}
@@ -38,10 +40,11 @@ use Rattle.window.specs.declared.dispatch.Controls.{Controls}
 use Rattle.window.specs.declared.Window.{Window}
 use Rattle.window.specs.Windows.{seen}
 use Rattle.window.specs.Raw.{fallbackOf}
-use Rattle.profile.specs.Profile.{crateProfile}
+use Rattle.profile.specs.declared.Profile.{Profile}
+use Rattle.profile.specs.Profile.{profileOf}
 use Rattle.state.specs.declared.Oep060Timing.{Oep060Timing}
 use Rattle.state.specs.declared.Retirement.{Retirement}
-use Rattle.step.specs.CrateBoard.{steppedOf}
+use Rattle.step.specs.Boards.{steppedOf}
 use Rattle.image.specs.Image.{InRange}
 
 pub record BranchFactors : Type 0 where
@@ -83,8 +86,8 @@ branchFactorsOf c k =
       through = eqb (k .pc) ((k .ppc + 4) % 2 ^ 32);
     }
 
-abbrev pub factorsOf : Oep060Timing → Retirement → Factors
-factorsOf t r =
+abbrev pub factorsOf : Profile → Oep060Timing → Retirement → Factors
+factorsOf p t r =
     record {
       op = r .op;
       flowed = r .controls .flowed;
@@ -93,13 +96,13 @@ factorsOf t r =
       ebc = r .controls .ebc;
       supervisor = r .controls .supervisor;
       opened = seen (t .window) .opened;
-      touched = touchedOf (crateProfile (r .op)) (seen (t .window));
+      touched = touchedOf (profileOf p (r .op)) (seen (t .window));
       ccr = seen (t .window) .ccr;
       mem = seen (t .window) .mem;
       warm = seen (t .window) .warm;
       fallback = fallbackOf (r .controls .raw .0);
       branch =
-          cond (has (crateProfile (r .op) .word .0) BRANCH) (some (branchFactorsOf (t .cache) (r .controls))) none;
+          cond (has (profileOf p (r .op) .word .0) BRANCH) (some (branchFactorsOf (t .cache) (r .controls))) none;
     }
 
 abbrev pub but : Factors → ℕ → Bool → Bool → Bool → ℕ → Factors
@@ -145,40 +148,42 @@ charged floored n = max n 5
 abbrev pub holding : BranchCache060 → ℕ → ℕ → BranchCache060
 holding c ppc byte = slotPut c (slotOf ppc) (record { tag = ppc; byte = byte })
 
-pub data SameChange (t t' : Oep060Timing) (r r' : Retirement) : Type 0 where
+pub data SameChange (p : Profile) (t t' : Oep060Timing) (r r' : Retirement) : Type 0 where
   -- neither cache changes
-  kept : steppedOf t r .timing .cache ≡ t .cache → steppedOf t' r' .timing .cache ≡ t' .cache → SameChange t t' r r'
+  kept : steppedOf p t r .timing .cache ≡ t .cache → steppedOf p t' r' .timing .cache ≡ t' .cache
+      → SameChange p t t' r r'
   -- each gets the same byte, under its own address
-  put : (byte : ℕ) → steppedOf t r .timing .cache ≡ holding (t .cache) (r .controls .ppc) byte
-      → steppedOf t' r' .timing .cache ≡ holding (t' .cache) (r' .controls .ppc) byte → SameChange t t' r r'
+  put : (byte : ℕ) → steppedOf p t r .timing .cache ≡ holding (t .cache) (r .controls .ppc) byte
+      → steppedOf p t' r' .timing .cache ≡ holding (t' .cache) (r' .controls .ppc) byte → SameChange p t t' r r'
 
-pub record SameStep (t t' : Oep060Timing) (r r' : Retirement) : Type 0 where
+pub record SameStep (p : Profile) (t t' : Oep060Timing) (r r' : Retirement) : Type 0 where
   -- they cost the same
-  pub cost : steppedOf t r .cost ≡ steppedOf t' r' .cost
+  pub cost : steppedOf p t r .cost ≡ steppedOf p t' r' .cost
   -- and leave the same window
-  pub window : steppedOf t r .timing .window ≡ steppedOf t' r' .timing .window
+  pub window : steppedOf p t r .timing .window ≡ steppedOf p t' r' .timing .window
   -- both caches stay, or get the same byte
-  pub cache : SameChange t t' r r'
+  pub cache : SameChange p t t' r r'
   -- of two at one address: slots that were equal stay equal, so that the states differ only where they differed before
   pub slots : r .controls .ppc ≡ r' .controls .ppc → InRange t → InRange t' → (n : ℕ)
       → slotAt (t .cache) n ≡ slotAt (t' .cache) n
-      → slotAt (steppedOf t r .timing .cache) n ≡ slotAt (steppedOf t' r' .timing .cache) n
+      → slotAt (steppedOf p t r .timing .cache) n ≡ slotAt (steppedOf p t' r' .timing .cache) n
 
-pub record EqualFactors : Type 0 where
-  pub equal : (t t' : Oep060Timing) (r r' : Retirement) → factorsOf t r ≡ factorsOf t' r' → SameStep t t' r r'
+pub record EqualFactors (p : Profile) : Type 0 where
+  pub equal : (t t' : Oep060Timing) (r r' : Retirement) → factorsOf p t r ≡ factorsOf p t' r' → SameStep p t t' r r'
   -- equal but for `touched`, which is 0 in both or in neither: one touched register stands for any set of them
   pub equalButTouched : (t t' : Oep060Timing) (r r' : Retirement)
-      → coarse (factorsOf t r) ≡ coarse (factorsOf t' r')
-      → SameStep t t' r r'
+      → coarse (factorsOf p t r) ≡ coarse (factorsOf p t' r')
+      → SameStep p t t' r r'
   -- of a branch, equal without what a branch has not
-  pub equalOfBranch : (t t' : Oep060Timing) (r r' : Retirement) → has (crateProfile (r .op) .word .0) BRANCH ≡ true
-      → ofBranch (factorsOf t r) ≡ ofBranch (factorsOf t' r')
-      → SameStep t t' r r'
+  pub equalOfBranch : (t t' : Oep060Timing) (r r' : Retirement) → has (profileOf p (r .op) .word .0) BRANCH ≡ true
+      → ofBranch (factorsOf p t r) ≡ ofBranch (factorsOf p t' r')
+      → SameStep p t t' r r'
   -- the fallback enters a cost in one form, which the other factors fix
   pub form : Factors → Form
   pub fallbackInForm : (t : Oep060Timing) (r : Retirement)
-      → steppedOf t r .cost ≡ clocks (charged (form (withFallback (coarse (factorsOf t r)) 0)) (factorsOf t r .fallback))
+      → steppedOf p t r .cost ≡ clocks (charged (form (withFallback (coarse (factorsOf p t r)) 0))
+      (factorsOf p t r .fallback))
   -- and enters nothing else
   pub equalButFallback : (t t' : Oep060Timing) (r r' : Retirement)
-      → withFallback (coarse (factorsOf t r)) 0 ≡ withFallback (coarse (factorsOf t' r')) 0
-      → (steppedOf t r .timing .window ≡ steppedOf t' r' .timing .window) × SameChange t t' r r'
+      → withFallback (coarse (factorsOf p t r)) 0 ≡ withFallback (coarse (factorsOf p t' r')) 0
+      → (steppedOf p t r .timing .window ≡ steppedOf p t' r' .timing .window) × SameChange p t t' r r'

@@ -6,10 +6,12 @@
 --   Retirements  ==  what holds of every retirement, break and clear
 --   Factors      ==  what can be told apart of one retirement, and that no more counts
 --   Demand3      ==  demand 3: time moves
---   Moving       ==  demand 3 of the crate's board, and of every trace and batch
+--   Moving       ==  demand 3 of each profile, and of every trace and batch
 --   Traces       ==  what holds of every run of a trace
 --   Batches      ==  what holds of every batch
 --   Images       ==  what holds of every state image
+--   OverPairing  ==  a pair whose follower touches what its head writes
+--   Profiles     ==  what holds of the mended profile beside the crate's
 --   Determined   ==  one answer at each input
 --   ByHand       ==  that of the functions which are proved by a walk by hand
 pub mod Opcodes
@@ -22,5 +24,7 @@ pub mod Moving
 pub mod Traces
 pub mod Batches
 pub mod Images
+pub mod OverPairing
+pub mod Profiles
 pub mod Determined
 pub mod ByHand

@@ -1,11 +1,13 @@
--- The tender's demand 3 of the crate's own board, and so of every run on it: "Reason: time must move."
+-- The tender's demand 3 of each profile with the crate's cache, and so of every run in it: "Reason: time must move."
+-- Document 02, R-4: "demand 3 of both, shown once over the profile".
 --
---   Meeting        ==  a retirement, and the state that it meets
---   meetings s es  ==  the retirements of a run of events from the state s, each with the state that it meets
---   isFree m       ==  demand 3's first sentence: "the window was open and it either .. or .."
---   isZero n       ==  the cost n is 0
---   TimeMoves      ==  the facts, each for every state; of every trace and batch, of a refused one too, which counts
---                      none
+-- In each, p is the profile.
+--   Meeting          ==  a retirement, and the state that it meets
+--   meetings p s es  ==  the retirements of a run of events from the state s, each with the state that it meets
+--   isFree p m       ==  demand 3's first sentence: "the window was open and it either .. or .."
+--   isZero n         ==  the cost n is 0
+--   TimeMoves p      ==  the facts, each for every state; of every trace and batch, of a refused one too, which counts
+--                        none
 use Prim.Native.Nat.{ℕ, _+_, _/_, _≤_}
 use mathlib.Core.Path.{_≡_}
 use mathlib.Core.Bool.{Bool, true, false, _&&_, _||_}
@@ -13,6 +15,7 @@ use mathlib.Core.List.{List, [], _∷_, map}
 use lib.Dec.{eqb}
 use lib.ListN.{length, take}
 use Rattle.little_endian.specs.Numbers.{numbersAt}
+use Rattle.profile.specs.declared.Profile.{Profile}
 use Rattle.state.specs.declared.Retirement.{Retirement}
 use Rattle.state.specs.declared.Event.{Event}
 use Rattle.state.specs.declared.Event.the-variants.{Retired, Broken, ClearedAll, ClearedUser}
@@ -20,7 +23,7 @@ use Rattle.state.specs.declared.Oep060Timing.{Oep060Timing}
 use Rattle.state.specs.Events.{State, after, countOf}
 use Rattle.state.specs.CrateCache.{crateCache}
 use Rattle.state.specs.Timing.{stateOf, seenOf}
-use Rattle.step.specs.CrateBoard.{crateBoard}
+use Rattle.step.specs.Boards.{boardOf}
 use Rattle.refusals.specs.Given.{isAccepted}
 use Rattle.records.specs.TraceTable.{Accepts}
 use Rattle.trace.specs.Run.{runTraceOf}
@@ -31,38 +34,38 @@ pub record Meeting : Type 0 where
   pub state : State crateCache
   pub retirement : Retirement
 
-abbrev pub meetings : State crateCache → List Event → List Meeting
-meetings s [] = []
-meetings s (Retired r ∷ es) = record { state = s; retirement = r } ∷ meetings (after crateBoard s (Retired r)) es
-meetings s (Broken ∷ es) = meetings (after crateBoard s Broken) es
-meetings s (ClearedAll ∷ es) = meetings (after crateBoard s ClearedAll) es
-meetings s (ClearedUser ∷ es) = meetings (after crateBoard s ClearedUser) es
+abbrev pub meetings : Profile → State crateCache → List Event → List Meeting
+meetings p s [] = []
+meetings p s (Retired r ∷ es) = record { state = s; retirement = r } ∷ meetings p (after (boardOf p) s (Retired r)) es
+meetings p s (Broken ∷ es) = meetings p (after (boardOf p) s Broken) es
+meetings p s (ClearedAll ∷ es) = meetings p (after (boardOf p) s ClearedAll) es
+meetings p s (ClearedUser ∷ es) = meetings p (after (boardOf p) s ClearedUser) es
 
-abbrev pub isFree : Meeting → Bool
-isFree m = m .state .window .opened && (joins crateBoard (m .state) (m .retirement)
-    || folds crateBoard (m .state) (m .retirement))
+abbrev pub isFree : Profile → Meeting → Bool
+isFree p m = m .state .window .opened && (joins (boardOf p) (m .state) (m .retirement)
+    || folds (boardOf p) (m .state) (m .retirement))
 
 abbrev pub isZero : ℕ → Bool
 isZero n = eqb n 0
 
-pub record TimeMoves : Type 0 where
-  -- the demand, of the crate's board
-  pub crate : Demand3 crateBoard
+pub record TimeMoves (p : Profile) : Type 0 where
+  -- the demand, of this board
+  pub board : Demand3 (boardOf p)
   -- "n retirements cost at least n/2 rounded down,"
   pub trace : (trace lent : List ℕ) (t : Oep060Timing)
-      → runTraceOf trace lent t .ran .count / 2 ≤ runTraceOf trace lent t .ran .total
+      → runTraceOf p trace lent t .ran .count / 2 ≤ runTraceOf p trace lent t .ran .total
   pub batch : (rs : List Retirement) (ps : List ℕ) (t : Oep060Timing)
-      → batchOf rs ps t .ran .count / 2 ≤ batchOf rs ps t .ran .total
+      → batchOf p rs ps t .ran .count / 2 ≤ batchOf p rs ps t .ran .total
   -- "or rounded up if the window began shut"
   pub traceShut : (trace lent : List ℕ) (t : Oep060Timing) → t .window .opened ≡ false
-      → (runTraceOf trace lent t .ran .count + 1) / 2 ≤ runTraceOf trace lent t .ran .total
+      → (runTraceOf p trace lent t .ran .count + 1) / 2 ≤ runTraceOf p trace lent t .ran .total
   pub batchShut : (rs : List Retirement) (ps : List ℕ) (t : Oep060Timing) → t .window .opened ≡ false
-      → (batchOf rs ps t .ran .count + 1) / 2 ≤ batchOf rs ps t .ran .total
+      → (batchOf p rs ps t .ran .count + 1) / 2 ≤ batchOf p rs ps t .ran .total
   -- "a retirement costs 0 exactly when the window was open and it either .. or ..": each cost in the lent places
   pub traceZero : (trace lent : List ℕ) (t : Oep060Timing) (es : List Event) → Accepts trace (length lent) es
-      → map isZero (numbersAt (countOf es) 4 (runTraceOf trace lent t .bytes) 0) ≡ map isFree
-      (meetings (stateOf (seenOf t)) es)
+      → map isZero (numbersAt (countOf es) 4 (runTraceOf p trace lent t .bytes) 0) ≡ map (isFree p)
+      (meetings p (stateOf (seenOf t)) es)
   pub batchZero : (rs : List Retirement) (ps : List ℕ) (t : Oep060Timing)
-      → isAccepted (batchOf rs ps t .ran .verdict) ≡ true
-      → map isZero (take (length rs) (batchOf rs ps t .places)) ≡ map isFree
-      (meetings (stateOf (seenOf t)) (eventsOf rs))
+      → isAccepted (batchOf p rs ps t .ran .verdict) ≡ true
+      → map isZero (take (length rs) (batchOf p rs ps t .places)) ≡ map (isFree p)
+      (meetings p (stateOf (seenOf t)) (eventsOf rs))

@@ -1,13 +1,13 @@
--- Document 01, "One retirement": facts of one event on the crate's state, each for every state.
+-- Document 01, "One retirement": facts of one event on the crate's state, each for every state, in either profile.
 --
---   Pairs r     ==  r keeps the flow, is no branch, and meets an open window whose dispatch test it passes
---   EveryEvent  ==  the facts
+--   Pairs r       ==  r keeps the flow, is no branch, and meets an open window whose dispatch test it passes
+--   EveryEvent p  ==  the facts, in the profile p
 use Prim.Native.Nat.{ℕ, _-_}
 use mathlib.Core.Path.{_≡_}
 use mathlib.Core.Bool.{Bool, true, false}
 use Rattle.class_word.specs.Word.{has, classOf, clocks, BRANCH, VARIABLE, UNCLASSIFIED, «EA_INDEXED»}
 use Rattle.branch_cache.specs.Slot.{hitOf}
-use Rattle.branch_cache.specs.Cache.{slotAt, slotOf, cacheUpdateOf, clearAllOf, clearUserOf}
+use Rattle.branch_cache.specs.Cache.{slotAt, slotOf, cacheUpdateOf}
 use Rattle.window.specs.declared.dispatch.Instruction.{Instruction}
 use Rattle.window.specs.declared.dispatch.Controls.{Controls}
 use Rattle.window.specs.declared.Window.{Window}
@@ -16,12 +16,13 @@ use Rattle.window.specs.Windows.{shut, seen}
 use Rattle.window.specs.Dispatch.{passes}
 use Rattle.cost.specs.Cost.{costOf, baseOf}
 use Rattle.branch_cache.specs.declared.BranchCache060.{BranchCache060}
+use Rattle.profile.specs.declared.Profile.{Profile}
 use Rattle.state.specs.declared.Oep060Timing.{Oep060Timing}
 use Rattle.state.specs.declared.Retirement.{Retirement}
 use Rattle.state.specs.declared.Event.the-variants.{Retired, Broken, ClearedAll, ClearedUser}
 use Rattle.state.specs.Events.{retiringOf}
 use Rattle.state.specs.Timing.{stateOf}
-use Rattle.step.specs.CrateBoard.{crateBoard, steppedOf, afterOf}
+use Rattle.step.specs.Boards.{boardOf, steppedOf, afterOf}
 use Rattle.branch_cache.specs.declared.slot.Slot.{Slot}
 
 pub record Pairs (r : Retiring) : Type 0 where
@@ -30,16 +31,16 @@ pub record Pairs (r : Retiring) : Type 0 where
   pub waiting : r .window .opened ≡ true
   pub passed : passes (r .instruction) (r .controls) (r .window) ≡ true
 
-pub record EveryEvent : Type 0 where
+pub record EveryEvent (p : Profile) : Type 0 where
   -- the promise of `cycles_060` is the machine's step: its cost, and the state after the retirement
   pub stepCost : (t : Oep060Timing) (r : Retirement)
-      → steppedOf t r .cost ≡ clocks (costOf (retiringOf crateBoard (stateOf t) r))
-  pub stepState : (t : Oep060Timing) (r : Retirement) → steppedOf t r .timing ≡ afterOf t (Retired r)
-  -- "window shut, base less 1 (always 0)": over any class word the base less 1, never below 0; over the crate's always
-  -- 0
+      → steppedOf p t r .cost ≡ clocks (costOf (retiringOf (boardOf p) (stateOf t) r))
+  pub stepState : (t : Oep060Timing) (r : Retirement) → steppedOf p t r .timing ≡ afterOf p t (Retired r)
+  -- "window shut, base less 1 (always 0)": over any class word the base less 1, never below 0; over those of a profile
+  -- always 0
   pub pairCost : (r : Retiring) → Pairs r → costOf r ≡ baseOf (r .instruction) (r .controls) - 1
-  pub pairCostsNothing : (t : Oep060Timing) (r : Retirement) → Pairs (retiringOf crateBoard (stateOf t) r)
-      → costOf (retiringOf crateBoard (stateOf t) r) ≡ 0
+  pub pairCostsNothing : (t : Oep060Timing) (r : Retirement) → Pairs (retiringOf (boardOf p) (stateOf t) r)
+      → costOf (retiringOf (boardOf p) (stateOf t) r) ≡ 0
   -- the dispatch test leaves only class 0 words that are neither indexed, unclassified nor variable
   pub passingClass : (i : Instruction) (k : Controls) (w : Window) → passes i k w ≡ true → classOf (i .word .0) ≡ 0
   pub passingUnindexed : (i : Instruction) (k : Controls) (w : Window) → passes i k w ≡ true
@@ -49,13 +50,13 @@ pub record EveryEvent : Type 0 where
   pub passingFixed : (i : Instruction) (k : Controls) (w : Window) → passes i k w ≡ true
       → has (i .word .0) VARIABLE ≡ false
   -- "A break shuts the window in place and touches nothing else."
-  pub breakKeepsCache : (t : Oep060Timing) → afterOf t Broken .cache ≡ t .cache
-  pub breakShuts : (t : Oep060Timing) → afterOf t Broken .window ≡ shut
+  pub breakKeepsCache : (t : Oep060Timing) → afterOf p t Broken .cache ≡ t .cache
+  pub breakShuts : (t : Oep060Timing) → afterOf p t Broken .window ≡ shut
   -- "tags and window stay", the window as it is read
-  pub clearAllKeepsTags : (t : Oep060Timing) → afterOf t ClearedAll .cache .tags ≡ t .cache .tags
-  pub clearAllKeepsWindow : (t : Oep060Timing) → afterOf t ClearedAll .window ≡ seen (t .window)
-  pub clearUserKeepsTags : (t : Oep060Timing) → afterOf t ClearedUser .cache .tags ≡ t .cache .tags
-  pub clearUserKeepsWindow : (t : Oep060Timing) → afterOf t ClearedUser .window ≡ seen (t .window)
+  pub clearAllKeepsTags : (t : Oep060Timing) → afterOf p t ClearedAll .cache .tags ≡ t .cache .tags
+  pub clearAllKeepsWindow : (t : Oep060Timing) → afterOf p t ClearedAll .window ≡ seen (t .window)
+  pub clearUserKeepsTags : (t : Oep060Timing) → afterOf p t ClearedUser .cache .tags ≡ t .cache .tags
+  pub clearUserKeepsWindow : (t : Oep060Timing) → afterOf p t ClearedUser .window ≡ seen (t .window)
   -- "a not-taken miss changes nothing"
   pub missKeeps : (c : BranchCache060) (pc : ℕ) → hitOf (slotAt c (slotOf pc)) pc ≡ false → (user : Bool)
       → cacheUpdateOf c pc false user ≡ c

@@ -1,13 +1,16 @@
 // The replay: an image and a trace from standard input; the listing from that state, and the next state's image, to
-// standard output.
+// standard output, in the profile that the word behind the program's name names; none is the crate's.
 //
-// `input` reads, `replaying` makes the text, and what cannot be read is said on standard error.
+// `input` reads both, `replaying` makes the text; input that cannot be read, and a word that names no profile, are said
+// on standard error.
 use input::Input;
+use input::Word;
 use libc::STDERR_FILENO;
 use libc::STDOUT_FILENO;
+use profile::Profile;
 use replaying::REPLAY_ROOM;
 
-fn main() {
+fn replay(profile: Profile) {
     // An image, the longest trace, and one byte more, so that longer input is seen to be longer.
     let mut bytes = [0u8; 66825];
     let came = input::read_input(&mut bytes);
@@ -17,8 +20,18 @@ fn main() {
         }
         Input::Taken(n) => {
             let mut text = [0u8; REPLAY_ROOM];
-            let len = replaying::replay_text(&bytes[..n], &mut text);
+            let len = replaying::replay_text(&bytes[..n], &mut text, profile);
             io::write_all(STDOUT_FILENO, &text[..len]);
+        }
+    }
+}
+
+fn main() {
+    let word = input::read_word();
+    match word {
+        Word::Named(profile) => replay(profile),
+        Word::Unknown => {
+            io::write_all(STDERR_FILENO, b"replay: the profile is crate or mended\n");
         }
     }
 }

@@ -14,6 +14,7 @@ use Rattle.little_endian.specs.Numbers.{bytesOf, putAt, bytesOfEach}
 use Rattle.text.specs.Written.{textOf, written, writtenOf}
 use Rattle.text.proofs.Writing.{wrote, wrote-more, wrote-whole}
 use Rattle.window.specs.Windows.{seen}
+use Rattle.profile.specs.declared.Profile.{Profile}
 use Rattle.state.specs.declared.Event.{Event}
 use Rattle.state.specs.declared.Oep060Timing.{Oep060Timing}
 use Rattle.refusals.specs.declared.Refusal.{Refusal}
@@ -61,61 +62,61 @@ image-fills t lent l a b e =
     q ∙ rw (drop-of-length-le lent {i = 0 + length (imageOf t)} (omega arith)) (append-nil (imageOf t))
 
 -- ---- the text
-pub shown-refused : (said : Trace) (out : List ℕ) (t : Oep060Timing) {r : Listed} {after : List ℕ} {refusal : Refusal}
-    → listingOutcome r after ≡ listingOutcomeBy said out t → r .verdict ≡ Refused refusal → written (r .len) after ≡ writtenOf out 0 (shown said t)
-shown-refused (refused other) out t e v = listed-text (refused other) out t e
-shown-refused (events es) out t e v =
+pub shown-refused : (P : Profile) (said : Trace) (out : List ℕ) (t : Oep060Timing) {r : Listed} {after : List ℕ} {refusal : Refusal}
+    → listingOutcome r after ≡ listingOutcomeBy P said out t → r .verdict ≡ Refused refusal → written (r .len) after ≡ writtenOf out 0 (shown P said t)
+shown-refused P (refused other) out t e v = listed-text P (refused other) out t e
+shown-refused P (events es) out t e v =
     let u = ap (λ (o : ListingOutcome). o .answer .verdict) e in
     let z : _≡_ {A = ℕ} 0 1 = cc in
     absurd (omega arith)
 
-never : (refusal : Refusal) (out : List ℕ) (t : Oep060Timing) {r : Listed} {after : List ℕ}
-    → listingOutcome r after ≡ listingOutcomeBy (refused refusal) out t → r .verdict ≡ Accepted → ⊥
-never refusal out t e v =
+never : (P : Profile) (refusal : Refusal) (out : List ℕ) (t : Oep060Timing) {r : Listed} {after : List ℕ}
+    → listingOutcome r after ≡ listingOutcomeBy P (refused refusal) out t → r .verdict ≡ Accepted → ⊥
+never P refusal out t e v =
     let u = ap (λ (o : ListingOutcome). o .answer .verdict) e in
     let z : _≡_ {A = ℕ} 0 1 = cc in
     omega arith
 
 -- every text of this trace is short enough
-abbrev Bound : Trace → Oep060Timing → Type 0
-Bound said t = (es : List Event) → said ≡ events es → length (tableOf es t) ≤ 65588
+abbrev Bound : Profile → Trace → Oep060Timing → Type 0
+Bound P said t = (es : List Event) → said ≡ events es → length (tableOf P es t) ≤ 65588
 
-short : (said : Trace) (out : List ℕ) (t : Oep060Timing) → Bound said t → {r : Listed} {after : List ℕ}
-    → listingOutcome r after ≡ listingOutcomeBy said out t → r .verdict ≡ Accepted → r .len ≤ 65588
-short (events es) out t f e v = omega (arith, f es refl, ap (λ (o : ListingOutcome). o .answer .len) e)
-short (refused refusal) out t f e v = absurd (never refusal out t e v)
+short : (P : Profile) (said : Trace) (out : List ℕ) (t : Oep060Timing) → Bound P said t → {r : Listed} {after : List ℕ}
+    → listingOutcome r after ≡ listingOutcomeBy P said out t → r .verdict ≡ Accepted → r .len ≤ 65588
+short P (events es) out t f e v = omega (arith, f es refl, ap (λ (o : ListingOutcome). o .answer .len) e)
+short P (refused refusal) out t f e v = absurd (never P refusal out t e v)
 
 -- the rows follow
-rows : (said : Trace) (out : List ℕ) (t : Oep060Timing) → 68224 ≤ length out → Bound said t → {r : Listed} {after : List ℕ}
-    → listingOutcome r after ≡ listingOutcomeBy said out t → r .verdict ≡ Accepted → length (imageOf (r .timing)) ≡ 1288
+rows : (P : Profile) (said : Trace) (out : List ℕ) (t : Oep060Timing) → 68224 ≤ length out → Bound P said t → {r : Listed} {after : List ℕ}
+    → listingOutcome r after ≡ listingOutcomeBy P said out t → r .verdict ≡ Accepted → length (imageOf (r .timing)) ≡ 1288
     → {n : ℕ} {last : List ℕ} → written n last ≡ writtenOf after (r .len) (hexRows 41 (imageOf (r .timing)))
-    → written n last ≡ writtenOf out 0 (shown said t)
-rows (events es) out t room f {r} e v l d =
+    → written n last ≡ writtenOf out 0 (shown P said t)
+rows P (events es) out t room f {r} e v l d =
     let b = f es refl in
-    let w = wrote out 0 (tableOf es t) (omega arith) (listed-text (events es) out t e) in
+    let w = wrote out 0 (tableOf P es t) (omega arith) (listed-text P (events es) out t e) in
     rw (← ap (λ (o : ListingOutcome). o .answer .timing) e)
     (wrote-whole (wrote-more w (hexRows 41 (imageOf (r .timing))) (omega (arith, w .place, rows-length 41 (imageOf (r .timing)))) d))
-rows (refused refusal) out t room f e v l d = absurd (never refusal out t e v)
+rows P (refused refusal) out t room f e v l d = absurd (never P refusal out t e v)
 
-module _ (trace out : List ℕ) (t : Oep060Timing) {r : Listed} {after : List ℕ} (e : listingOutcome r after ≡ listingOutcomeBy (shortTraceOf trace) out t) (v : r .verdict ≡ Accepted) where
-  bound : Bound (shortTraceOf trace) t
-  bound es q = text-fits trace t q
+module _ (P : Profile) (trace out : List ℕ) (t : Oep060Timing) {r : Listed} {after : List ℕ} (e : listingOutcome r after ≡ listingOutcomeBy P (shortTraceOf trace) out t) (v : r .verdict ≡ Accepted) where
+  bound : Bound P (shortTraceOf trace) t
+  bound es q = text-fits P trace t q
 
   pub replay-room : r .len ≤ 65588
-  replay-room = short (shortTraceOf trace) out t bound e v
+  replay-room = short P (shortTraceOf trace) out t bound e v
 
   pub replay-shown : 68224 ≤ length out → length (r .timing .cache .tags) ≡ 256 → length (r .timing .cache .state) ≡ 256
       → {n : ℕ} {last : List ℕ} → written n last ≡ writtenOf after (r .len) (imageLines (r .timing))
-      → written n last ≡ writtenOf out 0 (shown (shortTraceOf trace) t)
-  replay-shown room a b d = rows (shortTraceOf trace) out t room bound e v (image-long (r .timing) a b) d
+      → written n last ≡ writtenOf out 0 (shown P (shortTraceOf trace) t)
+  replay-shown room a b d = rows P (shortTraceOf trace) out t room bound e v (image-long (r .timing) a b) d
 
 -- ---- the verdict on the image
-module _ (image trace : List ℕ) {read : ImageRead} (e : read ≡ imageReadOf image) where
-  pub printed-refused : {refusal : Refusal} → read .verdict ≡ Refused refusal → replayed (imageReadOf image) trace ≡ textOf "image " ++ refusalLine refusal
-  printed-refused v = ap (λ (x : ImageRead). replayed x trace) (sym e) ∙ ap (λ (u : Verdict). replayedBy u (read .timing) trace) v
+module _ (P : Profile) (image trace : List ℕ) {read : ImageRead} (e : read ≡ imageReadOf image) where
+  pub printed-refused : {refusal : Refusal} → read .verdict ≡ Refused refusal → replayed P (imageReadOf image) trace ≡ textOf "image " ++ refusalLine refusal
+  printed-refused v = ap (λ (x : ImageRead). replayed P x trace) (sym e) ∙ ap (λ (u : Verdict). replayedBy P u (read .timing) trace) v
 
-  pub printed-accepted : read .verdict ≡ Accepted → replayed (imageReadOf image) trace ≡ shown (shortTraceOf trace) (read .timing)
-  printed-accepted v = ap (λ (x : ImageRead). replayed x trace) (sym e) ∙ ap (λ (u : Verdict). replayedBy u (read .timing) trace) v
+  pub printed-accepted : read .verdict ≡ Accepted → replayed P (imageReadOf image) trace ≡ shown P (shortTraceOf trace) (read .timing)
+  printed-accepted v = ap (λ (x : ImageRead). replayed P x trace) (sym e) ∙ ap (λ (u : Verdict). replayedBy P u (read .timing) trace) v
 
 -- ---- the two parts of the input
 module _ (input : List ℕ) where
@@ -137,16 +138,16 @@ module _ (input : List ℕ) where
           drop-of-length-le input {i = min (length input) 1288} (omega arith) ∙ sym (drop-of-length-le input {i = 1288} (omega arith))
       go false q = rw (min-eq-right (ltb-false (length input) 1288 q))
 
-  by-verdict : (v : Verdict) → replayBy v input ≡ replayedBy v (imageReadOf (imageIn input) .timing) (traceIn input)
-  by-verdict (Refused refusal) = refl
-  by-verdict Accepted = refl
+  by-verdict : (P : Profile) (v : Verdict) → replayBy P v input ≡ replayedBy P v (imageReadOf (imageIn input) .timing) (traceIn input)
+  by-verdict P (Refused refusal) = refl
+  by-verdict P Accepted = refl
 
-  pub replay-printed : {size : ℕ} → size ≡ min (length input) 1288
-      → replayed (imageReadOf (take size input)) (take (length input - size) (drop size input)) ≡ replayOf input
-  replay-printed {size} least =
+  pub replay-printed : (P : Profile) {size : ℕ} → size ≡ min (length input) 1288
+      → replayed P (imageReadOf (take size input)) (take (length input - size) (drop size input)) ≡ replayOf P input
+  replay-printed P {size} least =
       let all : take (length input - size) (drop size input) ≡ drop size input = take-all (length input - size) (drop size input) (omega (arith, length-drop size input)) in
       let rest : take (length input - size) (drop size input) ≡ traceIn input = all ∙ ap (λ (n : ℕ). drop n input) least ∙ trace-part in
       let front : take size input ≡ imageIn input = ap (λ (n : ℕ). take n input) least ∙ image-part in
-      ap (λ (xs : List ℕ). replayed (imageReadOf xs) (take (length input - size) (drop size input))) front
-      ∙ ap (replayed (imageReadOf (imageIn input))) rest
-      ∙ sym (by-verdict (imageReadOf (imageIn input) .verdict))
+      ap (λ (xs : List ℕ). replayed P (imageReadOf xs) (take (length input - size) (drop size input))) front
+      ∙ ap (replayed P (imageReadOf (imageIn input))) rest
+      ∙ sym (by-verdict P (imageReadOf (imageIn input) .verdict))

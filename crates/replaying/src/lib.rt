@@ -16,6 +16,7 @@ ghost use Rattle.listing.specs.Listing.{shortTraceOf};
 ghost use Rattle.replaying.specs.Replay.{imageLines, shown, replayOf};
 ghost use Rattle.replaying.specs.Inner.{replayed};
 use image::IMAGE_LENGTH;
+use profile::Profile;
 use refusals::Refusal;
 use refusals::Verdict;
 use state::Oep060Timing;
@@ -34,12 +35,12 @@ fn put_image_lines(out: &mut [u8], at: usize, timing: Oep060Timing) -> usize
 }
 
 // The replay's text from the state that was read.
-fn replay_from(trace: &[u8], out: &mut [u8], timing: Oep060Timing) -> usize
+fn replay_from(trace: &[u8], out: &mut [u8], timing: Oep060Timing, profile: Profile) -> usize
     requires { ⌜ 68224 ≤ length (now out) ⌝ }
     ensures { λ r. ⌜ written r (now (out .exit))
-        ≡ writtenOf (now (out .entry)) 0 (shown (shortTraceOf (now (trace .entry))) timing) ⌝ }
+        ≡ writtenOf (now (out .entry)) 0 (shown profile (shortTraceOf (now (trace .entry))) timing) ⌝ }
 {
-    let listed = listing::list_into(trace, out, timing);
+    let listed = listing::list_into(trace, out, timing, profile);
     let verdict = listed.verdict;
     let len = listed.len;
     let next = listed.timing;
@@ -60,27 +61,28 @@ fn put_refused(out: &mut [u8], refusal: Refusal) -> usize
 }
 
 // The image is judged first.
-fn replay_parts(image: &[u8], trace: &[u8], out: &mut [u8]) -> usize
+fn replay_parts(image: &[u8], trace: &[u8], out: &mut [u8], profile: Profile) -> usize
     requires { ⌜ 68224 ≤ length (now out) ⌝ }
     ensures { λ r. ⌜ written r (now (out .exit))
-        ≡ writtenOf (now (out .entry)) 0 (replayed (imageReadOf (now (image .entry))) (now (trace .entry))) ⌝ }
+        ≡ writtenOf (now (out .entry)) 0 (replayed profile (imageReadOf (now (image .entry))) (now (trace .entry))) ⌝ }
 {
     let read = image::image_read(image);
     let verdict = read.verdict;
     let timing = read.timing;
     match verdict {
         Verdict::Refused(refusal) => put_refused(out, refusal),
-        Verdict::Accepted => replay_from(trace, out, timing),
+        Verdict::Accepted => replay_from(trace, out, timing, profile),
     }
 }
 
 // The trace is what follows the image.
-fn replay_into(input: &[u8], out: &mut [u8]) -> usize
+fn replay_into(input: &[u8], out: &mut [u8], profile: Profile) -> usize
     requires { ⌜ 68224 ≤ length (now out) ⌝ }
-    ensures { λ r. ⌜ written r (now (out .exit)) ≡ writtenOf (now (out .entry)) 0 (replayOf (now (input .entry))) ⌝ }
+    ensures { λ r. ⌜ written r (now (out .exit))
+        ≡ writtenOf (now (out .entry)) 0 (replayOf profile (now (input .entry))) ⌝ }
 {
     let size = least(input.len(), IMAGE_LENGTH);
-    replay_parts(&input[..size], &input[size..], out)
+    replay_parts(&input[..size], &input[size..], out, profile)
 }
 
 fn least(a: usize, b: usize) -> usize
@@ -90,9 +92,10 @@ fn least(a: usize, b: usize) -> usize
 }
 
 // The replay's text: its length, and in the lent bytes the text itself; bytes beyond it stay.
-pub fn replay_text(input: &[u8], text: &mut [u8; REPLAY_ROOM]) -> usize
-    ensures { λ r. ⌜ written r (now (text .exit)) ≡ writtenOf (now (text .entry)) 0 (replayOf (now (input .entry))) ⌝ }
+pub fn replay_text(input: &[u8], text: &mut [u8; REPLAY_ROOM], profile: Profile) -> usize
+    ensures { λ r. ⌜ written r (now (text .exit))
+        ≡ writtenOf (now (text .entry)) 0 (replayOf profile (now (input .entry))) ⌝ }
     ensures { λ r. ⌜ r ≤ length (now (text .exit)) ⌝ }
 {
-    replay_into(input, text)
+    replay_into(input, text, profile)
 }

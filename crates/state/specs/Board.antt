@@ -1,17 +1,14 @@
 -- What is chosen at the start. A retirement's cost goes by the profile's instruction and the cache's answer, and by
 -- nothing else of either.
 --
---   Profile    ==  what each opcode is to the pairing window: class word, uses and defs
 --   CacheRule  ==  a branch cache: its states, what it predicts of the branch at an address, its next state (address,
 --                  taken, user mode), and the two clears
---   Board      ==  a profile and a cache
+--   Board      ==  a profile, which says what each opcode is to the pairing window (class word, uses and defs), and a
+--                  cache
 use Prim.Native.Nat.{ℕ}
 use mathlib.Core.Bool.{Bool}
 use Rattle.branch_cache.specs.declared.slot.Predicted.{Predicted}
 use Rattle.window.specs.declared.dispatch.Instruction.{Instruction}
-
-abbrev pub Profile : Type 0
-Profile = ℕ → Instruction
 
 pub record CacheRule : Type 1 where
   pub Cache : Type 0
@@ -21,5 +18,5 @@ pub record CacheRule : Type 1 where
   pub clearUser : Cache → Cache
 
 pub record Board : Type 1 where
-  pub profile : Profile
+  pub profile : ℕ → Instruction
   pub rule : CacheRule

@@ -1,4 +1,4 @@
--- Document 01, part 5: the board that document 000 chooses.
+-- Document 01, part 5: the boards that are chosen at start.
 --
---   CrateBoard  ==  its profile and its cache together, and one event on its state
-pub mod CrateBoard
+--   Boards  ==  a profile and document 000's cache together, and one event on their state
+pub mod Boards

@@ -7,7 +7,7 @@ ghost use Rattle.class_word.specs.Word.{has, BRANCH};
 ghost use Rattle.state.specs.Events.{answerOf};
 ghost use Rattle.state.specs.CrateCache.{crateCache};
 ghost use Rattle.state.specs.Timing.{steppedBy};
-ghost use Rattle.step.specs.CrateBoard.{steppedOf};
+ghost use Rattle.step.specs.Boards.{steppedOf};
 use branch_cache::BranchCache060;
 use class_word::F_BRANCH;
 use class_word::F_DBCC;
@@ -15,6 +15,7 @@ use classifier::info_060;
 use cost::Answer;
 use cost::branch_cost_060;
 use masks::reg_masks_060;
+use profile::Profile;
 use state::Oep060Timing;
 use state::Retirement;
 use state::Stepped;
@@ -63,18 +64,19 @@ fn other_060(mut timing: Oep060Timing, i: Instruction, k: Controls) -> Stepped
     Stepped { timing, cost }
 }
 
-// The Rust's cycles_060.
-pub fn cycles_060(timing: Oep060Timing, r: Retirement) -> Stepped
-    ensures { λ o. ⌜ o ≡ steppedOf timing r ⌝ }
+// The Rust's cycles_060: its lookup, read in the profile.
+pub fn cycles_060(timing: Oep060Timing, profile: Profile, r: Retirement) -> Stepped
+    ensures { λ o. ⌜ o ≡ steppedOf profile timing r ⌝ }
 {
     let info = info_060(r.op);
     let masks = reg_masks_060(r.op);
-    let i = Instruction {
+    let looked_up = Instruction {
         word: info,
         uses: masks.uses,
         defs: masks.defs,
     };
-    if info.has(F_BRANCH) {
+    let i = profile::read_in(profile, r.op, looked_up);
+    if i.word.has(F_BRANCH) {
         return branch_060(timing, i, r.controls);
     }
     other_060(timing, i, r.controls)

@@ -8,13 +8,14 @@ use native.Mathlib.Omega.{arith}
 use lib.ListN.{length}
 use Rattle.little_endian.specs.Numbers.{bytesOf, putAt}
 use Rattle.little_endian.proofs.Numbers.{bytes-length, put-length}
+use Rattle.profile.specs.declared.Profile.{Profile}
 use Rattle.state.specs.declared.Retirement.{Retirement}
 use Rattle.state.specs.declared.Event.{Event}
 use Rattle.state.specs.declared.Event.the-variants.{Retired}
 use Rattle.state.specs.declared.Oep060Timing.{Oep060Timing}
 use Rattle.state.specs.declared.Stepped.{Stepped}
 use Rattle.state.specs.Timing.{seenOf}
-use Rattle.step.specs.CrateBoard.{steppedOf, afterOf}
+use Rattle.step.specs.Boards.{steppedOf, afterOf}
 use Rattle.refusals.specs.declared.Refusal.{Refusal}
 use Rattle.records.specs.declared.record.Read.the-variants.{Got, Bad, End}
 use Rattle.records.specs.Record.{readAt}
@@ -26,29 +27,29 @@ use Rattle.trace.specs.Run.{traceOutcome, ranAt, traceOutcomeOf}
 use Rattle.trace.proofs.TraceRunning.{outcomeFrom, run-none, run-end, run-cost, run-quiet}
 use Rattle.state.specs.Events.{countOf}
 
-pub record Going (trace lent₀ : List ℕ) (t₀ : Oep060Timing) (lent : List ℕ) (at k sum : ℕ) (t : Oep060Timing) : Type 0 where
+pub record Going (P : Profile) (trace lent₀ : List ℕ) (t₀ : Oep060Timing) (lent : List ℕ) (at k sum : ℕ) (t : Oep060Timing) : Type 0 where
   pub inside : at ≤ length trace
   -- a retirement takes 20 bytes
   pub few : 20 * k ≤ at
   pub same : length lent ≡ length lent₀
   pub small : sum ≤ k * 4294967295
   pub fits : Fits k (length lent) (readFrom trace at)
-  pub leads : outcomeFrom lent k sum t (readFrom trace at) ≡ traceOutcomeOf (readFrom trace 0) lent₀ t₀
+  pub leads : outcomeFrom P lent k sum t (readFrom trace at) ≡ traceOutcomeOf P (readFrom trace 0) lent₀ t₀
 
-pub going-start : (trace lent : List ℕ) (t : Oep060Timing) {u : Oep060Timing} → u ≡ seenOf t → Fits 0 (length lent) (readFrom trace 0) → Going trace lent t lent 0 0 0 u
-going-start trace lent t e f =
+pub going-start : (P : Profile) (trace lent : List ℕ) (t : Oep060Timing) {u : Oep060Timing} → u ≡ seenOf t → Fits 0 (length lent) (readFrom trace 0) → Going P trace lent t lent 0 0 0 u
+going-start P trace lent t e f =
     record {
       inside = omega arith;
       few = omega arith;
       same = refl;
       small = omega arith;
       fits = f;
-      leads = rw e (run-none (readFrom trace 0) lent t f);
+      leads = rw e (run-none P (readFrom trace 0) lent t f);
     }
 
-module _ {trace lent₀ : List ℕ} {t₀ : Oep060Timing} {lent : List ℕ} {at k sum : ℕ} {t : Oep060Timing} (g : Going trace lent₀ t₀ lent at k sum t) where
-  pub going-end : readAt trace at ≡ End → traceOutcome (ranAt k sum t) lent ≡ traceOutcomeOf (readFrom trace 0) lent₀ t₀
-  going-end q = sym (run-end lent k sum t) ∙ sym (ap (outcomeFrom lent k sum t) (from-end trace at q)) ∙ g .leads
+module _ {P : Profile} {trace lent₀ : List ℕ} {t₀ : Oep060Timing} {lent : List ℕ} {at k sum : ℕ} {t : Oep060Timing} (g : Going P trace lent₀ t₀ lent at k sum t) where
+  pub going-end : readAt trace at ≡ End → traceOutcome (ranAt k sum t) lent ≡ traceOutcomeOf P (readFrom trace 0) lent₀ t₀
+  going-end q = sym (run-end P lent k sum t) ∙ sym (ap (outcomeFrom P lent k sum t) (from-end trace at q)) ∙ g .leads
 
   -- so the total fits 64 bits: a trace of 16,777,216 bytes has 838,860 retirements at most
   pub going-total : length trace ≤ 16777216 → {n : ℕ} → n < 2 ^ 32 → sum + n < 2 ^ 64
@@ -67,7 +68,7 @@ module _ {trace lent₀ : List ℕ} {t₀ : Oep060Timing} {lent : List ℕ} {at 
     pub going-nearer : length trace - next < length trace - at
     going-nearer = let w = got-within trace at e next q in omega arith
 
-    pub going-quiet : countOf (e ∷ []) ≡ 0 → {u : Oep060Timing} → u ≡ afterOf t e → Going trace lent₀ t₀ lent next k sum u
+    pub going-quiet : countOf (e ∷ []) ≡ 0 → {u : Oep060Timing} → u ≡ afterOf P t e → Going P trace lent₀ t₀ lent next k sum u
     going-quiet z h =
         let w = got-within trace at e next q in
         let i = g .few in
@@ -79,7 +80,7 @@ module _ {trace lent₀ : List ℕ} {t₀ : Oep060Timing} {lent : List ℕ} {at 
           fits = rw (← add-zero k, ← z) fits-next;
           leads =
               rw h
-              (sym (ap (outcomeFrom lent k sum t) (from-got trace at e next q) ∙ run-quiet lent k sum t e (readFrom trace next) z fits-here)
+              (sym (ap (outcomeFrom P lent k sum t) (from-got trace at e next q) ∙ run-quiet P lent k sum t e (readFrom trace next) z fits-here)
               ∙ g .leads);
         }
 
@@ -90,8 +91,8 @@ module _ {trace lent₀ : List ℕ} {t₀ : Oep060Timing} {lent : List ℕ} {at 
     pub going-room : k * 4 + 4 ≤ length lent
     going-room = omega (arith, fits-room (k + 1) (length lent) (readFrom trace next) (fits-next (Retired r) next retired))
 
-    pub going-cost : (d : Stepped) → d ≡ steppedOf t r → d .cost .0 < 2 ^ 32
-        → Going trace lent₀ t₀ (putAt lent (k * 4) (bytesOf 4 (d .cost .0))) next (k + 1) (sum + d .cost .0) (d .timing)
+    pub going-cost : (d : Stepped) → d ≡ steppedOf P t r → d .cost .0 < 2 ^ 32
+        → Going P trace lent₀ t₀ (putAt lent (k * 4) (bytesOf 4 (d .cost .0))) next (k + 1) (sum + d .cost .0) (d .timing)
     going-cost d h l =
         let w = got-within trace at (Retired r) next retired in
         let i = g .few in
@@ -105,7 +106,7 @@ module _ {trace lent₀ : List ℕ} {t₀ : Oep060Timing} {lent : List ℕ} {at 
           fits = rw long (fits-next (Retired r) next retired);
           leads =
               sym
-              (ap (outcomeFrom lent k sum t) (from-got trace at (Retired r) next retired)
-              ∙ run-cost lent k sum t r (readFrom trace next) d h going-room (fits-here (Retired r) next retired))
+              (ap (outcomeFrom P lent k sum t) (from-got trace at (Retired r) next retired)
+              ∙ run-cost P lent k sum t r (readFrom trace next) d h going-room (fits-here (Retired r) next retired))
               ∙ g .leads;
         }

@@ -9,13 +9,14 @@ use lib.Seq.{drop-append-add, drop-length}
 use Rattle.little_endian.specs.Numbers.{bytesOf, bytesOfEach, putAt}
 use Rattle.little_endian.proofs.Each.{each-length}
 use Rattle.cost.specs.Cost.{costOf}
+use Rattle.profile.specs.declared.Profile.{Profile}
 use Rattle.state.specs.declared.Event.{Event}
 use Rattle.state.specs.declared.Event.the-variants.{Retired, Broken, ClearedAll, ClearedUser}
 use Rattle.state.specs.declared.Oep060Timing.{Oep060Timing}
 use Rattle.state.specs.Board.{Board}
 use Rattle.state.specs.Events.{State, retiringOf, after, retirements, finally, costs, total, countOf}
 use Rattle.state.specs.CrateCache.{crateCache}
-use Rattle.step.specs.CrateBoard.{crateBoard}
+use Rattle.step.specs.Boards.{boardOf}
 use Rattle.state.specs.Timing.{stateOf, timingOf, seenOf}
 use Rattle.refusals.specs.declared.Verdict.the-variants.{Accepted}
 use Rattle.trace.specs.Run.{costBytes, costsOf, nextOf, TraceOutcome, traceOutcome, runTraceOf}
@@ -64,21 +65,21 @@ pub bytes-four : (ns : List ℕ) → length (costBytes ns) ≡ 4 * length ns
 bytes-four ns = each-length 4 ns
 
 -- the state that a run leaves is as it is read
-next-read : (t : Oep060Timing) (es : List Event) → stateOf (seenOf (nextOf t es)) ≡ finally crateBoard (stateOf (seenOf t)) es
-next-read t es =
-    sym (finally-seen crateBoard (stateOf (seenOf t)) es)
-    ∙ ap (λ (s : State crateCache). finally crateBoard s es) (state-seen crateBoard (stateOf t))
+next-read : (P : Profile) (t : Oep060Timing) (es : List Event) → stateOf (seenOf (nextOf P t es)) ≡ finally (boardOf P) (stateOf (seenOf t)) es
+next-read P t es =
+    sym (finally-seen (boardOf P) (stateOf (seenOf t)) es)
+    ∙ ap (λ (s : State crateCache). finally (boardOf P) s es) (state-seen (boardOf P) (stateOf t))
 
-pub next-append : (t : Oep060Timing) (es fs : List Event) → nextOf t (es ++ fs) ≡ nextOf (nextOf t es) fs
-next-append t es fs =
+pub next-append : (P : Profile) (t : Oep060Timing) (es fs : List Event) → nextOf P t (es ++ fs) ≡ nextOf P (nextOf P t es) fs
+next-append P t es fs =
     ap timingOf
-    (finally-append crateBoard (stateOf (seenOf t)) es fs
-    ∙ ap (λ (s : State crateCache). finally crateBoard s fs) (sym (next-read t es)))
+    (finally-append (boardOf P) (stateOf (seenOf t)) es fs
+    ∙ ap (λ (s : State crateCache). finally (boardOf P) s fs) (sym (next-read P t es)))
 
-pub run-costs-append : (t : Oep060Timing) (es fs : List Event) → costsOf t (es ++ fs) ≡ costsOf t es ++ costsOf (nextOf t es) fs
-run-costs-append t es fs =
-    costs-append crateBoard (stateOf (seenOf t)) es fs
-    ∙ ap (λ (s : State crateCache). costsOf t es ++ costs crateBoard s fs) (sym (next-read t es))
+pub run-costs-append : (P : Profile) (t : Oep060Timing) (es fs : List Event) → costsOf P t (es ++ fs) ≡ costsOf P t es ++ costsOf P (nextOf P t es) fs
+run-costs-append P t es fs =
+    costs-append (boardOf P) (stateOf (seenOf t)) es fs
+    ∙ ap (λ (s : State crateCache). costsOf P t es ++ costs (boardOf P) s fs) (sym (next-read P t es))
 
 -- bytes that fill the first list, and those behind them
 put-full : (l bs : List ℕ) → length bs ≡ length l → putAt l 0 bs ≡ bs
@@ -97,13 +98,13 @@ put-both l m bs cs e =
     ∙ ap (λ (x : List ℕ). x ++ (cs ++ drop (0 + length cs) m)) (sym (put-full l bs e))
 
 -- one run into lent bytes of which the first part is what the first trace's costs fill
-module _ (a b l m : List ℕ) (t : Oep060Timing) {es fs : List Event} (first : Accepts a (length l) es) (second : Accepts b (length m) fs)
+module _ (P : Profile) (a b l m : List ℕ) (t : Oep060Timing) {es fs : List Event} (first : Accepts a (length l) es) (second : Accepts b (length m) fs)
     (fills : length l ≡ 4 * countOf es) (size : length (a ++ b) ≤ 16777216) where
   abbrev ran₁ : TraceOutcome
-  ran₁ = runTraceOf a l t
+  ran₁ = runTraceOf P a l t
 
   abbrev ran₂ : TraceOutcome
-  ran₂ = runTraceOf b m (ran₁ .ran .timing)
+  ran₂ = runTraceOf P b m (ran₁ .ran .timing)
 
   both : Accepts (a ++ b) (length (l ++ m)) (es ++ fs)
   both =
@@ -113,7 +114,7 @@ module _ (a b l m : List ℕ) (t : Oep060Timing) {es fs : List Event} (first : A
         enough = let p = second .enough in omega (arith, count-append es fs, length-append l m);
       }
 
-  pub run-parts : runTraceOf (a ++ b) (l ++ m) t
+  pub run-parts : runTraceOf P (a ++ b) (l ++ m) t
       ≡ traceOutcome
       (record {
         verdict = Accepted;
@@ -123,13 +124,13 @@ module _ (a b l m : List ℕ) (t : Oep060Timing) {es fs : List Event} (first : A
       })
       (ran₁ .bytes ++ ran₂ .bytes)
   run-parts =
-      let u : Oep060Timing = nextOf t es in
-      let full : length (costBytes (costsOf t es)) ≡ length l =
-      bytes-four (costsOf t es) ∙ ap (λ (n : ℕ). 4 * n) (costs-length crateBoard (stateOf (seenOf t)) es) ∙ sym fills in
-      let bs : putAt (l ++ m) 0 (costBytes (costsOf t (es ++ fs))) ≡ putAt l 0 (costBytes (costsOf t es)) ++ putAt m 0 (costBytes (costsOf u fs)) =
-      ap (λ (ns : List ℕ). putAt (l ++ m) 0 (costBytes ns)) (run-costs-append t es fs)
-      ∙ ap (putAt (l ++ m) 0) (bytes-append (costsOf t es) (costsOf u fs))
-      ∙ put-both l m (costBytes (costsOf t es)) (costBytes (costsOf u fs)) full in
-      let sum : total (costsOf t (es ++ fs)) ≡ total (costsOf t es) + total (costsOf u fs) =
-      ap total (run-costs-append t es fs) ∙ total-append (costsOf t es) (costsOf u fs) in
-      rw (run-accepted a l t first) (rw (run-accepted b m u second) (run-accepted (a ++ b) (l ++ m) t both ∙ rw (count-append es fs, sum, next-append t es fs, bs)))
+      let u : Oep060Timing = nextOf P t es in
+      let full : length (costBytes (costsOf P t es)) ≡ length l =
+      bytes-four (costsOf P t es) ∙ ap (λ (n : ℕ). 4 * n) (costs-length (boardOf P) (stateOf (seenOf t)) es) ∙ sym fills in
+      let bs : putAt (l ++ m) 0 (costBytes (costsOf P t (es ++ fs))) ≡ putAt l 0 (costBytes (costsOf P t es)) ++ putAt m 0 (costBytes (costsOf P u fs)) =
+      ap (λ (ns : List ℕ). putAt (l ++ m) 0 (costBytes ns)) (run-costs-append P t es fs)
+      ∙ ap (putAt (l ++ m) 0) (bytes-append (costsOf P t es) (costsOf P u fs))
+      ∙ put-both l m (costBytes (costsOf P t es)) (costBytes (costsOf P u fs)) full in
+      let sum : total (costsOf P t (es ++ fs)) ≡ total (costsOf P t es) + total (costsOf P u fs) =
+      ap total (run-costs-append P t es fs) ∙ total-append (costsOf P t es) (costsOf P u fs) in
+      rw (run-accepted P a l t first) (rw (run-accepted P b m u second) (run-accepted P (a ++ b) (l ++ m) t both ∙ rw (count-append es fs, sum, next-append P t es fs, bs)))

@@ -9,6 +9,7 @@ use lib.ListN.{length, take-append-drop}
 use Rattle.little_endian.specs.Numbers.{bytesOf, bytesOfEach, putAt}
 use Rattle.little_endian.proofs.Numbers.{bytes-length, put-joins}
 use Rattle.cost.specs.Cost.{costOf}
+use Rattle.profile.specs.declared.Profile.{Profile}
 use Rattle.state.specs.declared.Retirement.{Retirement}
 use Rattle.state.specs.declared.Event.{Event}
 use Rattle.state.specs.declared.Event.the-variants.{Retired, Broken, ClearedAll, ClearedUser}
@@ -17,52 +18,52 @@ use Rattle.state.specs.declared.Stepped.{Stepped}
 use Rattle.state.specs.Events.{State, retiringOf, after, retirements, costs, finally, total, countOf}
 use Rattle.state.specs.CrateCache.{crateCache}
 use Rattle.state.specs.Timing.{stateOf, timingOf, steppedBy, seenOf}
-use Rattle.step.specs.CrateBoard.{crateBoard, steppedOf, afterOf}
+use Rattle.step.specs.Boards.{boardOf, steppedOf, afterOf}
 use Rattle.refusals.specs.Refused.{refusedOf}
 use Rattle.records.specs.Trace.{Trace, events, refused, ahead}
 use Rattle.records.specs.Judged.{Fits}
 use Rattle.trace.specs.Run.{costBytes, TraceOutcome, traceOutcome, ranAt, traceOutcomeOf}
 
 -- the outcome where k costs are written already, their sum is `sum`, and the rest is to be run from t
-abbrev pub outcomeFrom : List ℕ → ℕ → ℕ → Oep060Timing → Trace → TraceOutcome
-outcomeFrom lent k sum t (events es) =
+abbrev pub outcomeFrom : Profile → List ℕ → ℕ → ℕ → Oep060Timing → Trace → TraceOutcome
+outcomeFrom P lent k sum t (events es) =
     traceOutcome
-    (ranAt (k + countOf es) (sum + total (costs crateBoard (stateOf t) es)) (timingOf (finally crateBoard (stateOf t) es)))
-    (putAt lent (k * 4) (costBytes (costs crateBoard (stateOf t) es)))
-outcomeFrom lent k sum t (refused refusal) = traceOutcome (refusedOf refusal t) lent
+    (ranAt (k + countOf es) (sum + total (costs (boardOf P) (stateOf t) es)) (timingOf (finally (boardOf P) (stateOf t) es)))
+    (putAt lent (k * 4) (costBytes (costs (boardOf P) (stateOf t) es)))
+outcomeFrom P lent k sum t (refused refusal) = traceOutcome (refusedOf refusal t) lent
 
-pub run-none : (said : Trace) (lent : List ℕ) (t : Oep060Timing) → Fits 0 (length lent) said → outcomeFrom lent 0 0 (seenOf t) said ≡ traceOutcomeOf said lent t
-run-none (events es) lent t f = simp zero-add
-run-none (refused refusal) lent t f = absurd f
+pub run-none : (P : Profile) (said : Trace) (lent : List ℕ) (t : Oep060Timing) → Fits 0 (length lent) said → outcomeFrom P lent 0 0 (seenOf t) said ≡ traceOutcomeOf P said lent t
+run-none P (events es) lent t f = simp zero-add
+run-none P (refused refusal) lent t f = absurd f
 
-pub run-end : (lent : List ℕ) (k sum : ℕ) (t : Oep060Timing) → outcomeFrom lent k sum t (events []) ≡ traceOutcome (ranAt k sum t) lent
+pub run-end : (P : Profile) (lent : List ℕ) (k sum : ℕ) (t : Oep060Timing) → outcomeFrom P lent k sum t (events []) ≡ traceOutcome (ranAt k sum t) lent
 unfolding retirements finally putAt bytesOfEach
-run-end lent k sum t = simp (add-zero, append-nil, take-append-drop)
+run-end P lent k sum t = simp (add-zero, append-nil, take-append-drop)
 
 -- a retirement's cost is written behind the others
-pub run-cost : (lent : List ℕ) (k sum : ℕ) (t : Oep060Timing) (r : Retirement) (said : Trace) (d : Stepped) → d ≡ steppedOf t r
+pub run-cost : (P : Profile) (lent : List ℕ) (k sum : ℕ) (t : Oep060Timing) (r : Retirement) (said : Trace) (d : Stepped) → d ≡ steppedOf P t r
     → k * 4 + 4 ≤ length lent → Fits k (length lent) (ahead (Retired r) said)
-    → outcomeFrom lent k sum t (ahead (Retired r) said)
-    ≡ outcomeFrom (putAt lent (k * 4) (bytesOf 4 (d .cost .0))) (k + 1) (sum + d .cost .0) (d .timing) said
+    → outcomeFrom P lent k sum t (ahead (Retired r) said)
+    ≡ outcomeFrom P (putAt lent (k * 4) (bytesOf 4 (d .cost .0))) (k + 1) (sum + d .cost .0) (d .timing) said
 unfolding retirements finally steppedBy bytesOfEach
-run-cost lent k sum t r (events es) d q room f =
-    let v : State crateCache = after crateBoard (stateOf t) (Retired r) in
-    let n : ℕ = costOf (retiringOf crateBoard (stateOf t) r) in
-    let bs : List ℕ = costBytes (costs crateBoard v es) in
+run-cost P lent k sum t r (events es) d q room f =
+    let v : State crateCache = after (boardOf P) (stateOf t) (Retired r) in
+    let n : ℕ = costOf (retiringOf (boardOf P) (stateOf t) r) in
+    let bs : List ℕ = costBytes (costs (boardOf P) v es) in
     let four : k * 4 + length (bytesOf 4 n) ≡ (k + 1) * 4 = omega (arith, bytes-length 4 n) in
     let more : k + 1 + countOf es ≡ k + countOf (Retired r ∷ es) = omega arith in
-    let dear : sum + n + total (costs crateBoard v es) ≡ sum + total (n ∷ costs crateBoard v es) = omega arith in
+    let dear : sum + n + total (costs (boardOf P) v es) ≡ sum + total (n ∷ costs (boardOf P) v es) = omega arith in
     let join : putAt (putAt lent (k * 4) (bytesOf 4 n)) ((k + 1) * 4) bs ≡ putAt lent (k * 4) (bytesOf 4 n ++ bs) =
     rw (← four) (put-joins lent (k * 4) (bytesOf 4 n) (omega (arith, bytes-length 4 n)) bs) in
     rw q (rw (more, dear, join))
-run-cost lent k sum t r (refused refusal) d q room f = absurd f
+run-cost P lent k sum t r (refused refusal) d q room f = absurd f
 
 -- any other event costs nothing
-pub run-quiet : (lent : List ℕ) (k sum : ℕ) (t : Oep060Timing) (e : Event) (said : Trace) → countOf (e ∷ []) ≡ 0
-    → Fits k (length lent) (ahead e said) → outcomeFrom lent k sum t (ahead e said) ≡ outcomeFrom lent k sum (afterOf t e) said
+pub run-quiet : (P : Profile) (lent : List ℕ) (k sum : ℕ) (t : Oep060Timing) (e : Event) (said : Trace) → countOf (e ∷ []) ≡ 0
+    → Fits k (length lent) (ahead e said) → outcomeFrom P lent k sum t (ahead e said) ≡ outcomeFrom P lent k sum (afterOf P t e) said
 unfolding retirements finally
-run-quiet lent k sum t (Retired r) (events es) z f = absurd (omega arith)
-run-quiet lent k sum t Broken (events es) z f = refl
-run-quiet lent k sum t ClearedAll (events es) z f = refl
-run-quiet lent k sum t ClearedUser (events es) z f = refl
-run-quiet lent k sum t e (refused refusal) z f = absurd f
+run-quiet P lent k sum t (Retired r) (events es) z f = absurd (omega arith)
+run-quiet P lent k sum t Broken (events es) z f = refl
+run-quiet P lent k sum t ClearedAll (events es) z f = refl
+run-quiet P lent k sum t ClearedUser (events es) z f = refl
+run-quiet P lent k sum t e (refused refusal) z f = absurd f

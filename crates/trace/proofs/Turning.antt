@@ -7,11 +7,12 @@ use native.Mathlib.Nat.{add-zero}
 use native.Mathlib.Omega.{arith}
 use lib.ListN.{length}
 use Rattle.little_endian.specs.Numbers.{bytesOf, putAt}
+use Rattle.profile.specs.declared.Profile.{Profile}
 use Rattle.state.specs.declared.Event.{Event}
 use Rattle.state.specs.declared.Event.the-variants.{Retired, Broken, ClearedAll, ClearedUser}
 use Rattle.state.specs.declared.Oep060Timing.{Oep060Timing}
 use Rattle.state.specs.Timing.{timingAt}
-use Rattle.step.specs.CrateBoard.{steppedOf, afterOf}
+use Rattle.step.specs.Boards.{steppedOf, afterOf}
 use Rattle.in_place.specs.Lent.{Lent, stateAt, lentOf}
 use Rattle.in_place.proofs.NumbersHeld.{window-held}
 use Rattle.records.specs.declared.record.Read.{Read}
@@ -27,27 +28,27 @@ use Rattle.class_word.specs.Word.{clocks}
 timing-held : (t : Oep060Timing) → stateAt (lentOf t) ≡ t
 timing-held t = ap (timingAt (t .cache .tags) (t .cache .state)) (window-held (t .window))
 
-module _ {trace lent₀ : List ℕ} {t₀ : Oep060Timing} {bytes : List ℕ} {at k sum : ℕ} (l : Lent) (g : Going trace lent₀ t₀ bytes at k sum (stateAt l)) where
+module _ {P : Profile} {trace lent₀ : List ℕ} {t₀ : Oep060Timing} {bytes : List ℕ} {at k sum : ℕ} (l : Lent) (g : Going P trace lent₀ t₀ bytes at k sum (stateAt l)) where
   pub record Gone (x : Turned) : Type 0 where
     pub nearer : length trace - x .turn .next < length trace - at
-    pub quiet : x .turn .count ≤ 0 → Going trace lent₀ t₀ bytes (x .turn .next) k (sum + x .turn .cost .0) (stateAt (x .lent))
+    pub quiet : x .turn .count ≤ 0 → Going P trace lent₀ t₀ bytes (x .turn .next) k (sum + x .turn .cost .0) (stateAt (x .lent))
     pub room : 0 < x .turn .count → k * 4 + 4 ≤ length bytes
     pub paid : 0 < x .turn .count
-        → Going trace lent₀ t₀ (putAt bytes (k * 4) (bytesOf 4 (x .turn .cost .0))) (x .turn .next) (k + 1) (sum + x .turn .cost .0) (stateAt (x .lent))
+        → Going P trace lent₀ t₀ (putAt bytes (k * 4) (bytesOf 4 (x .turn .cost .0))) (x .turn .next) (k + 1) (sum + x .turn .cost .0) (stateAt (x .lent))
 
   gone-quiet : (e : Event) (next : ℕ) → readAt trace at ≡ Got e next → countOf (e ∷ []) ≡ 0
-      → Gone (turned (record { next = next; count = countOf (e ∷ []); cost = clocks 0 }) (lentOf (afterOf (stateAt l) e)))
+      → Gone (turned (record { next = next; count = countOf (e ∷ []); cost = clocks 0 }) (lentOf (afterOf P (stateAt l) e)))
   gone-quiet e next q z =
       record {
         nearer = going-nearer g e next q;
-        quiet = λ h. rw add-zero (going-quiet g e next q z (timing-held (afterOf (stateAt l) e)));
+        quiet = λ h. rw add-zero (going-quiet g e next q z (timing-held (afterOf P (stateAt l) e)));
         room = λ h. absurd (omega arith);
         paid = λ h. absurd (omega arith);
       }
 
-  gone-got : (e : Event) (next : ℕ) → readAt trace at ≡ Got e next → paidFor l e .cost .0 < 2 ^ 32 → Gone (turnFor l next e)
+  gone-got : (e : Event) (next : ℕ) → readAt trace at ≡ Got e next → paidFor P l e .cost .0 < 2 ^ 32 → Gone (turnFor P l next e)
   gone-got (Retired r) next q small =
-      let s = steppedOf (stateAt l) r in
+      let s = steppedOf P (stateAt l) r in
       record {
         nearer = going-nearer g (Retired r) next q;
         quiet = λ h. absurd (omega arith);
@@ -59,10 +60,10 @@ module _ {trace lent₀ : List ℕ} {t₀ : Oep060Timing} {bytes : List ℕ} {at
   gone-got ClearedUser next q small = gone-quiet ClearedUser next q refl
 
   -- within the trace there is a record, and it is sound
-  pub turn-gone : at < length trace → {x : Turned} → x ≡ turnOf at l (readAt trace at) → x .turn .cost .0 < 2 ^ 32 → Gone x
+  pub turn-gone : at < length trace → {x : Turned} → x ≡ turnOf P at l (readAt trace at) → x .turn .cost .0 < 2 ^ 32 → Gone x
   turn-gone here {x} = go (readAt trace at) refl
     where
-      go : (r : Read) → readAt trace at ≡ r → x ≡ turnOf at l r → x .turn .cost .0 < 2 ^ 32 → Gone x
+      go : (r : Read) → readAt trace at ≡ r → x ≡ turnOf P at l r → x .turn .cost .0 < 2 ^ 32 → Gone x
       go End q p small = absurd (omega (arith, subst (Explained trace at) q (read-explained trace at)))
       go (Bad refusal) q p small = absurd (going-bad g refusal q)
       go (Got e next) q p small = subst Gone (sym p) (gone-got e next q (subst (λ (y : Turned). y .turn .cost .0 < 2 ^ 32) p small))

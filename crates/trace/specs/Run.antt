@@ -1,28 +1,30 @@
 -- Document 01, "Records and images": what a run of a trace gives, and what it leaves in the lent bytes. The Rust has
 -- none.
 --
---   costBytes ns                ==  the costs ns as bytes
---                                   "A trace run writes 4 bytes per retirement"; "Costs in bytes are little-endian"
---   costsOf t es                ==  what each retirement among the events es costs, from the state t as it is read
---   nextOf t es                 ==  the state after the events es, from the state t as it is read
---   TraceOutcome                ==  what is returned, together with the lent bytes afterwards
---   traceOutcome r bytes        ==  the outcome of these two
---   ranAt k sum t               ==  what is returned where the trace is accepted: k costs, their sum, and the next
---                                   state t
---   traceAcceptedOf es lent t   ==  the outcome where the trace is accepted
---                                   "gives the number of retirements and the 64-bit total"; "Places beyond the last
---                                   cost stay"
---   traceOutcomeOf said lent t  ==  the outcome by what the trace said
---                                   "A refused run or batch .. writes no byte"
---   runTraceOf trace lent t     ==  the outcome of a run of the trace into the lent bytes from the state t
+-- In each, p is the profile that is chosen at start.
+--   costBytes ns                  ==  the costs ns as bytes
+--                                     "A trace run writes 4 bytes per retirement"; "Costs in bytes are little-endian"
+--   costsOf p t es                ==  what each retirement among the events es costs, from the state t as it is read
+--   nextOf p t es                 ==  the state after the events es, from the state t as it is read
+--   TraceOutcome                  ==  what is returned, together with the lent bytes afterwards
+--   traceOutcome r bytes          ==  the outcome of these two
+--   ranAt k sum t                 ==  what is returned where the trace is accepted: k costs, their sum, and the next
+--                                     state t
+--   traceAcceptedOf p es lent t   ==  the outcome where the trace is accepted
+--                                     "gives the number of retirements and the 64-bit total"; "Places beyond the last
+--                                     cost stay"
+--   traceOutcomeOf p said lent t  ==  the outcome by what the trace said
+--                                     "A refused run or batch .. writes no byte"
+--   runTraceOf p trace lent t     ==  the outcome of a run of the trace into the lent bytes from the state t
 use Prim.Native.Nat.{ℕ}
 use mathlib.Core.List.{List}
 use lib.ListN.{length}
 use Rattle.little_endian.specs.Numbers.{putAt, bytesOfEach}
+use Rattle.profile.specs.declared.Profile.{Profile}
 use Rattle.state.specs.declared.Event.{Event}
 use Rattle.state.specs.declared.Oep060Timing.{Oep060Timing}
 use Rattle.state.specs.Events.{costs, finally, total, countOf}
-use Rattle.step.specs.CrateBoard.{crateBoard}
+use Rattle.step.specs.Boards.{boardOf}
 use Rattle.state.specs.Timing.{stateOf, timingOf, seenOf}
 use Rattle.refusals.specs.declared.Verdict.the-variants.{Accepted}
 use Rattle.refusals.specs.declared.outcome.Ran.{Ran}
@@ -33,11 +35,11 @@ use Rattle.records.specs.Judged.{judgedTrace}
 abbrev pub costBytes : List ℕ → List ℕ
 costBytes ns = bytesOfEach 4 ns
 
-abbrev pub costsOf : Oep060Timing → List Event → List ℕ
-costsOf t es = costs crateBoard (stateOf (seenOf t)) es
+abbrev pub costsOf : Profile → Oep060Timing → List Event → List ℕ
+costsOf p t es = costs (boardOf p) (stateOf (seenOf t)) es
 
-abbrev pub nextOf : Oep060Timing → List Event → Oep060Timing
-nextOf t es = timingOf (finally crateBoard (stateOf (seenOf t)) es)
+abbrev pub nextOf : Profile → Oep060Timing → List Event → Oep060Timing
+nextOf p t es = timingOf (finally (boardOf p) (stateOf (seenOf t)) es)
 
 pub record TraceOutcome : Type 0 where
   pub ran : Ran
@@ -49,13 +51,14 @@ traceOutcome r bytes = record { ran = r; bytes = bytes }
 abbrev pub ranAt : ℕ → ℕ → Oep060Timing → Ran
 ranAt k sum t = record { verdict = Accepted; count = k; total = sum; timing = t }
 
-abbrev pub traceAcceptedOf : List Event → List ℕ → Oep060Timing → TraceOutcome
-traceAcceptedOf es lent t =
-    traceOutcome (ranAt (countOf es) (total (costsOf t es)) (nextOf t es)) (putAt lent 0 (costBytes (costsOf t es)))
+abbrev pub traceAcceptedOf : Profile → List Event → List ℕ → Oep060Timing → TraceOutcome
+traceAcceptedOf p es lent t =
+    traceOutcome (ranAt (countOf es) (total (costsOf p t es)) (nextOf p t es))
+    (putAt lent 0 (costBytes (costsOf p t es)))
 
-abbrev pub traceOutcomeOf : Trace → List ℕ → Oep060Timing → TraceOutcome
-traceOutcomeOf (events es) lent t = traceAcceptedOf es lent t
-traceOutcomeOf (refused refusal) lent t = traceOutcome (refusedOf refusal t) lent
+abbrev pub traceOutcomeOf : Profile → Trace → List ℕ → Oep060Timing → TraceOutcome
+traceOutcomeOf p (events es) lent t = traceAcceptedOf p es lent t
+traceOutcomeOf p (refused refusal) lent t = traceOutcome (refusedOf refusal t) lent
 
-unfoldable pub runTraceOf : List ℕ → List ℕ → Oep060Timing → TraceOutcome
-runTraceOf trace lent t = traceOutcomeOf (judgedTrace trace (length lent)) lent t
+unfoldable pub runTraceOf : Profile → List ℕ → List ℕ → Oep060Timing → TraceOutcome
+runTraceOf p trace lent t = traceOutcomeOf p (judgedTrace trace (length lent)) lent t

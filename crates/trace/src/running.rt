@@ -5,6 +5,7 @@ ghost use Rattle.records.specs.Record.{readAt};
 ghost use Rattle.trace.specs.TraceTurns.{turned, turnOf};
 use class_word::Clocks;
 use in_place::WindowNumbers;
+use profile::Profile;
 use records::Read;
 
 // The turn of one record: the place after it, how many retirements it is, and its clocks.
@@ -20,16 +21,17 @@ pub fn run_record(
     tags: &mut [u32; 256],
     state: &mut [u8; 256],
     window: &mut WindowNumbers,
+    profile: Profile,
     at: usize,
 ) -> Turn
     ensures { λ r. ⌜ turned r (lent (now (tags .exit)) (now (state .exit)) (now (window .exit)))
-        ≡ turnOf at (lent (now (tags .entry)) (now (state .entry)) (now (window .entry))) (readAt
+        ≡ turnOf profile at (lent (now (tags .entry)) (now (state .entry)) (now (window .entry))) (readAt
         (now (trace .entry)) at) ⌝ }
 {
     let read = records::read_record(trace, at);
     match read {
         Read::Got(e, next) => {
-            let happened = in_place::event_at(tags, state, window, e);
+            let happened = in_place::event_at(tags, state, window, profile, e);
             let cost = happened.cost;
             Turn {
                 next,

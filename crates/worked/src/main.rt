@@ -3,6 +3,7 @@
 //
 // The fallback is that of `window`; RTS is one step by value (`step`) from a fresh state.
 use libc::STDOUT_FILENO;
+use profile::Profile;
 use state::Oep060Timing;
 use state::Retirement;
 use window::Controls;
@@ -35,7 +36,7 @@ fn flowed(asked: &[u8], raw: i32) {
         op: 0x4E75,
         controls,
     };
-    let stepped = step::cycles_060(Oep060Timing::fresh(), rts);
+    let stepped = step::cycles_060(Oep060Timing::fresh(), Profile::Crate, rts);
     show(asked, stepped.cost.0);
 }
 

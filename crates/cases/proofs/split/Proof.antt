@@ -1,6 +1,7 @@
 -- `split`: the image is within what came, and the bytes are the rest.
 -- Assumes nothing.
 use mathlib.Core.Path.{sym}
+use native.Mathlib.Omega.{arith}
 use lib.Seq.{length-take-le}
 use borrow.Author.Needs.{needs}
 use Rattle.cases.proofs.split.Statement.{statement}
@@ -23,6 +24,12 @@ shared-slice-read-start c = search needs
 
 start-requires : tie.Need-start-requires
 start-requires c κs = search needs
+
+shared-slice-read-number : tie.Need-shared-slice-read-number
+shared-slice-read-number c = search needs
+
+cast-number : tie.Need-cast-number
+cast-number c = omega (arith, c .shared-slice-known5 .given 1)
 
 sub-lend : tie.Need-sub-lend
 sub-lend c = search needs
@@ -49,6 +56,8 @@ split-spec =
     slice-aggregate-start
     shared-slice-read-start
     start-requires
+    shared-slice-read-number
+    cast-number
     sub-lend
     part-lend-start
     part-lend-end

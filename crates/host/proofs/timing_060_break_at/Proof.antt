@@ -8,7 +8,7 @@ shut-window-requires : tie.Need-shut-window-requires
 shut-window-requires c κs = search needs
 
 returns : tie.Need-returns
-returns c = λ tags state. simp (c .shut-window .ensures)
+returns c = λ p tags state. simp (c .shut-window .ensures)
 
 pub timing-060-break-at-spec : {M : Type 1} → statement M
 timing-060-break-at-spec = tie.close (tie.spec shut-window-requires returns)

@@ -18,13 +18,13 @@ slice-aggregate-put-text c = search needs
 put-text-requires : tie.Need-put-text-requires
 put-text-requires c κs =
     let r = c .before .before .before .before .run-short in
-    listed-ready _ _ _ (r .ensures) (omega (arith, r .kept .1 .0)) (c .before .before .before .before .before .before .before .before .pre)
+    listed-ready _ _ _ _ (r .ensures) (omega (arith, r .kept .1 .0)) (c .before .before .before .before .before .before .before .before .pre)
 
 same-length : tie.Need-same-length
 same-length c = search needs
 
 returns : tie.Need-returns
-returns c = listed-whole _ _ _ (c .before .before .before .before .before .before .before .run-short .ensures) _ (c .before .before .put-text .ensures)
+returns c = listed-whole _ _ _ _ (c .before .before .before .before .before .before .before .run-short .ensures) _ (c .before .before .put-text .ensures)
 
 pub list-into-spec : {M : Type 1} → statement M
 list-into-spec =

@@ -14,7 +14,7 @@ returns : tie.Need-returns
 returns c =
     let a = c .before .before .before .args in
     let d = c .list-into in
-    (d .ensures, omega (arith, d .kept .1 .0, listed-within (shortTraceOf (a .trace .now)) (a .text .now) (a .timing) (d .ensures) (d .kept .1 .0)))
+    (d .ensures, omega (arith, d .kept .1 .0, listed-within (a .profile) (shortTraceOf (a .trace .now)) (a .text .now) (a .timing) (d .ensures) (d .kept .1 .0)))
 
 pub list-trace-spec : {M : Type 1} → statement M
 list-trace-spec = tie.close (tie.spec list-into-requires returns)

@@ -19,7 +19,7 @@ same-length : tie.Need-same-length
 same-length c = search needs
 
 returns-2 : tie.Need-returns-2
-returns-2 c = c .before .before .run-trace .ensures ∙ run-small _ (c .before .before .before .before .if1 .left) _ _ (c .before .before .before .before .before .before .before .pre)
+returns-2 c = c .before .before .run-trace .ensures ∙ run-small _ (c .before .before .before .before .if1 .left) _ _ _ (c .before .before .before .before .before .before .before .pre)
 
 pub run-short-spec : {M : Type 1} → statement M
 run-short-spec =

@@ -27,7 +27,7 @@ enum-told-2 c = search needs
 put-image-lines-requires : tie.Need-put-image-lines-requires
 put-image-lines-requires c κs =
     let d = c .before .before .before .before .before .before in
-    let r = replay-room _ _ _ (d .list-into .ensures) (c .before .enum-told2 .given .1) in
+    let r = replay-room _ _ _ _ (d .list-into .ensures) (c .before .enum-told2 .given .1) in
     omega (arith, d .list-into .kept .1 .0, c .before .before .before .before .before .before .before .before .before .before .pre)
 
 same-length : tie.Need-same-length
@@ -36,7 +36,7 @@ same-length c = search needs
 returns : tie.Need-returns
 returns c =
     let a = c .before .before .before .before .before .before .before .before .before .args in
-    shown-refused (shortTraceOf (a .trace .now)) (a .out .now) (a .timing) (c .before .before .before .before .before .list-into .ensures) (c .enum-told .given .1)
+    shown-refused (a .profile) (shortTraceOf (a .trace .now)) (a .out .now) (a .timing) (c .before .before .before .before .before .list-into .ensures) (c .enum-told .given .1)
 
 same-length-2 : tie.Need-same-length-2
 same-length-2 c = search needs
@@ -44,7 +44,7 @@ same-length-2 c = search needs
 returns-2 : tie.Need-returns-2
 returns-2 c =
     let d = c .before .before .before .before .before .before .before .before .before in
-    replay-shown _ _ _ (d .list-into .ensures) (c .before .before .before .before .enum-told2 .given .1) (c .before .before .before .before .before .before .before .before .before .before .before .before .before .pre) (tags d) (slots d) (c .before .before .put-image-lines .ensures)
+    replay-shown _ _ _ _ (d .list-into .ensures) (c .before .before .before .before .enum-told2 .given .1) (c .before .before .before .before .before .before .before .before .before .before .before .before .before .pre) (tags d) (slots d) (c .before .before .put-image-lines .ensures)
 
 pub replay-from-spec : {M : Type 1} → statement M
 replay-from-spec =

@@ -33,7 +33,7 @@ same-length c = search needs
 returns : tie.Need-returns
 returns c =
     let a = c .before .before .before .before .before .before .before .before .before .args in
-    c .before .before .replay-parts .ensures ∙ ap (writtenOf (a .out .now) 0) (replay-printed (a .input .now) (c .before .before .before .before .before .before .least .ensures))
+    c .before .before .replay-parts .ensures ∙ ap (writtenOf (a .out .now) 0) (replay-printed (a .input .now) (a .profile) (c .before .before .before .before .before .before .least .ensures))
 
 pub replay-into-spec : {M : Type 1} → statement M
 replay-into-spec =

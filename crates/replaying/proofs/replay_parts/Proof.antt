@@ -29,7 +29,7 @@ returns : tie.Need-returns
 returns c =
     let a = c .before .before .before .before .before .before .before .before .before .before .before .before .args in
     c .before .before .put-refused .ensures
-    ∙ ap (writtenOf (a .out .now) 0) (sym (printed-refused (a .image .now) (a .trace .now) (c .before .before .before .before .before .before .before .before .image-read .ensures) (c .before .before .before .before .before .verdict .given .1)))
+    ∙ ap (writtenOf (a .out .now) 0) (sym (printed-refused (a .profile) (a .image .now) (a .trace .now) (c .before .before .before .before .before .before .before .before .image-read .ensures) (c .before .before .before .before .before .verdict .given .1)))
 
 same-length-2 : tie.Need-same-length-2
 same-length-2 c = search needs
@@ -38,7 +38,7 @@ returns-2 : tie.Need-returns-2
 returns-2 c =
     let a = c .before .before .before .before .before .before .before .before .before .before .before .args in
     c .before .before .replay-from .ensures
-    ∙ ap (writtenOf (a .out .now) 0) (sym (printed-accepted (a .image .now) (a .trace .now) (c .before .before .before .before .before .before .before .image-read .ensures) (c .before .before .before .before .enum-told .given .1)))
+    ∙ ap (writtenOf (a .out .now) 0) (sym (printed-accepted (a .profile) (a .image .now) (a .trace .now) (c .before .before .before .before .before .before .before .image-read .ensures) (c .before .before .before .before .enum-told .given .1)))
 
 pub replay-parts-spec : {M : Type 1} → statement M
 replay-parts-spec =

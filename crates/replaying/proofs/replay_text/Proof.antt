@@ -14,8 +14,8 @@ returns : tie.Need-returns
 returns c =
     let a = c .before .before .before .args in
     let d = c .replay-into in
-    let room = written-within (a .text .now) 0 (replayOf (a .input .now)) (omega arith) (d .ensures) (d .kept .1 .0) in
-    (d .ensures, omega (arith, d .kept .1 .0, wrote (a .text .now) 0 (replayOf (a .input .now)) room (d .ensures) .place))
+    let room = written-within (a .text .now) 0 (replayOf (a .profile) (a .input .now)) (omega arith) (d .ensures) (d .kept .1 .0) in
+    (d .ensures, omega (arith, d .kept .1 .0, wrote (a .text .now) 0 (replayOf (a .profile) (a .input .now)) room (d .ensures) .place))
 
 pub replay-text-spec : {M : Type 1} → statement M
 replay-text-spec = tie.close (tie.spec replay-into-requires returns)

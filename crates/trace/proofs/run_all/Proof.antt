@@ -3,7 +3,6 @@
 use mathlib.Core.Path.{ap, _∙_}
 use borrow.Author.Needs.{needs}
 use Rattle.window.specs.declared.Window.{Window}
-use Rattle.state.specs.declared.Oep060Timing.{Oep060Timing}
 use Rattle.state.specs.Timing.{timingAt}
 use Rattle.in_place.specs.WindowNumbers.{windowAt}
 use Rattle.in_place.proofs.NumbersHeld.{window-held}
@@ -32,7 +31,7 @@ returns c =
     let t = a .timing in
     let e =
     k .run-records .ensures
-    ∙ ap (λ (w : Window). traceOutcomeOf (readTrace (a .trace .now)) (a .costs .now) (timingAt (t .cache .tags) (t .cache .state) w))
+    ∙ ap (λ (w : Window). traceOutcomeOf (a .profile) (readTrace (a .trace .now)) (a .costs .now) (timingAt (t .cache .tags) (t .cache .state) w))
     (ap windowAt (p .put-window .ensures) ∙ window-held (t .window)) in
     rw (← c .timing-at .ensures) at e
 

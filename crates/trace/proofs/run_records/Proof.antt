@@ -16,11 +16,11 @@ use Rattle.trace.proofs.run_records.Statement.{statement}
 use Rattle.trace.proofs.run_records.Tie as tie
 
 abbrev Inv-loop : tie.InvT-loop
-Inv-loop trace costs₀ tags₀ state₀ window₀ at₀ count₀ total₀ costs tags state window at count total =
-    Going trace costs₀ (stateAt (lent tags₀ state₀ window₀)) costs at count total (stateAt (lent tags state window))
+Inv-loop trace costs₀ tags₀ state₀ window₀ profile at₀ count₀ total₀ costs tags state window at count total =
+    Going profile trace costs₀ (stateAt (lent tags₀ state₀ window₀)) costs at count total (stateAt (lent tags state window))
 
 abbrev μ-loop : tie.MeasureT-loop
-μ-loop trace costs₀ tags₀ state₀ window₀ at₀ count₀ total₀ costs tags state window at count total = length trace - at
+μ-loop trace costs₀ tags₀ state₀ window₀ profile at₀ count₀ total₀ costs tags state window at count total = length trace - at
 
 abbrev loopAt : tie.After-run-record Inv-loop μ-loop → tie.At-loop Inv-loop μ-loop
 loopAt k = k .before .before .before .before .before
@@ -44,7 +44,7 @@ see-window-requires c κs = search needs
 loop-holds : tie.Need-loop-holds Inv-loop μ-loop
 loop-holds c =
     let s = c .before .before .before .before in
-    going-start _ _ _ (seen-held (s .args .tags .now) (s .args .state .now) (windowAt (s .args .window .now)) (c .see-window .ensures)) (s .pre .1)
+    going-start _ _ _ _ (seen-held (s .args .tags .now) (s .args .state .now) (windowAt (s .args .window .now)) (c .see-window .ensures)) (s .pre .1)
 
 run-record-requires : tie.Need-run-record-requires Inv-loop μ-loop
 run-record-requires c κs = search needs
@@ -103,7 +103,7 @@ returns c =
     let w = l .before in
     let a = w .before .before .before .before .args in
     going-end (l .loop .inv) (read-end _ _ (omega arith))
-    ∙ outcome-seen (readTrace (a .trace .now)) (a .costs .now) (stateAt (lent (a .tags .now) (a .state .now) (a .window .now)))
+    ∙ outcome-seen (a .profile) (readTrace (a .trace .now)) (a .costs .now) (stateAt (lent (a .tags .now) (a .state .now) (a .window .now)))
     (seen-start (a .tags .now) (a .state .now) (windowAt (a .window .now)) (w .see-window .ensures))
 
 pub run-records-spec : {M : Type 1} → statement M

@@ -28,7 +28,7 @@ run-all-requires c κs =
 returns : tie.Need-returns
 returns c =
     let k = c .before .before in
-    not-taken _ _ _ (sym (k .before .before .judge-trace .ensures) ∙ k .verdict .given .1) (c .refused .ensures)
+    not-taken _ _ _ _ (sym (k .before .before .judge-trace .ensures) ∙ k .verdict .given .1) (c .refused .ensures)
 
 same-length : tie.Need-same-length
 same-length c = search needs
@@ -36,7 +36,7 @@ same-length c = search needs
 returns-2 : tie.Need-returns-2
 returns-2 c =
     let k = c .before .before .before .before in
-    taken _ _ _ (sym (k .before .before .judge-trace .ensures) ∙ k .enum-told .given .1) (c .before .before .run-all .ensures)
+    taken _ _ _ _ (sym (k .before .before .judge-trace .ensures) ∙ k .enum-told .given .1) (c .before .before .run-all .ensures)
 
 pub run-trace-spec : {M : Type 1} → statement M
 run-trace-spec =

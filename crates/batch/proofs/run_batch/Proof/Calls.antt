@@ -25,7 +25,7 @@ use denote.Struct.Laws as LL
 use denote.Triple.Walked.{says}
 use Rattle.state.specs.declared.Stepped.{Stepped}
 use Rattle.batch.specs.declared.Carried.{Carried}
-use Rattle.state.proofs.Oep060Timing as S
+use Rattle.batch.proofs.Chosen as S
 use Rattle.state.proofs.Retirement as R
 use Rattle.state.proofs.Retirement.Laws as R′
 use Rattle.state.proofs.Stepped as X
@@ -43,12 +43,12 @@ use Rattle.batch.proofs.run_batch.Proof.Entry.{Setting, costs-ref, cost
 module _ {M : Type 1} {𝓤 : URA M} {H : Heap 𝓤} {A : Atoms 𝓤} (Z : Setting 𝓤 H A) where
   open Setting Z using (W, mem, run, rs, ps, s, room)
 
-  -- what `cycles_060`'s triple binds outside, and that the caller has what it asks
+  -- what `step_chosen`'s triple binds outside, and that the caller has what it asks
   abbrev pub to-step : N Z → Step 𝓤 H A mem run .Ghost
-  to-step t = ((tt, tt, tt, (t .c .timing, (record-at Z t, tt)), (svals (t .c .timing), (rvals (record-at Z t), tt))), tt)
+  to-step t = ((tt, tt, tt, (t .c .chosen, (record-at Z t, tt)), (svals (t .c .chosen), (rvals (record-at Z t), tt))), tt)
 
-  pub goes-step : (t : N Z) → Is R.the-row (record-at Z t) (rvals (record-at Z t)) → ent 𝓤 (sem 𝓤 H A (S.the-row .own (t .c .timing) (svals (t .c .timing)))) (Step 𝓤 H A mem run .pre (to-step t))
-  goes-step t g = qed W (‵ (S.the-row .own (t .c .timing) (svals (t .c .timing))) ∷ []) ∵ nothing ! $ owned ! R.the-row (Is R.the-row) (LL.makes R.the-type R′.the-plain 𝓤 H A) (record-at Z t) _ g $ fjoin ! $ move ! (1 ∷ 0 ∷ []) $ fjoin ! $ nothing ! $ join ! $ frame ! $ done !
+  pub goes-step : (t : N Z) → Is R.the-row (record-at Z t) (rvals (record-at Z t)) → ent 𝓤 (sem 𝓤 H A (S.the-row .own (t .c .chosen) (svals (t .c .chosen)))) (Step 𝓤 H A mem run .pre (to-step t))
+  goes-step t g = qed W (‵ (S.the-row .own (t .c .chosen) (svals (t .c .chosen))) ∷ []) ∵ nothing ! $ owned ! R.the-row (Is R.the-row) (LL.makes R.the-type R′.the-plain 𝓤 H A) (record-at Z t) _ g $ fjoin ! $ move ! (1 ∷ 0 ∷ []) $ fjoin ! $ nothing ! $ join ! $ frame ! $ done !
 
   -- the same of `pay`: the costs are lent again for the lifetime ν, under the name δ
   abbrev pub pay-args : (t : N Z) → Stepped → GName → RefT (List ℕ) × (ℕ × (Carried × (Stepped × Unit {0})))

@@ -12,10 +12,10 @@ use contract.Monad.{Fun, fact}
 use denote.Triple.Statement.{Contract}
 use denote.Triple.Clauses.{ensured, lasts}
 use denote.Triple.Spec.{tripleOf}
-use Rattle.state.specs.declared.Oep060Timing.{Oep060Timing}
+use Rattle.batch.specs.declared.Chosen.{Chosen}
 use Rattle.state.specs.declared.Retirement.{Retirement}
 use Rattle.state.specs.declared.Stepped.{Stepped}
-use Rattle.step.specs.CrateBoard.{steppedOf}
+use Rattle.step.specs.Boards.{steppedOf}
 use Rattle.refusals.specs.declared.outcome.Ran.{Ran}
 use Rattle.batch.specs.declared.Carried.{Carried}
 use Rattle.batch.specs.declared.Judged.{Judged}
@@ -24,7 +24,7 @@ use Rattle.batch.proofs.judge_batch as judge
 use Rattle.batch.proofs.begin as begin
 use Rattle.batch.proofs.finish as finish
 use Rattle.batch.proofs.pay as pay
-use Rattle.step.proofs.cycles_060 as step
+use Rattle.batch.proofs.step_chosen as step
 
 -- the contracts that the proof cites, and of `ensured` the clause alone
 module _ {M : Type 1} (𝓤 : URA M) (H : Heap 𝓤) (A : Atoms 𝓤) (mem : Memory → SProp 𝓤) (run : Routine → Fun 𝓤) where
@@ -46,11 +46,11 @@ module _ {M : Type 1} (𝓤 : URA M) (H : Heap 𝓤) (A : Atoms 𝓤) (mem : Mem
   pub judge-of : (n k : ℕ) (r : Judged) → ent 𝓤 (ensured 𝓤 H A judge.ended (judge.clauses 𝓤 H A mem run) tt (n, (k, tt)) tt r) (fact 𝓤 (r ≡ judgedBatchOf n k))
   judge-of n k r = exE 𝓤 _ (λ ws. snd∗ 𝓤 (sem 𝓤 H A (lasts judge.ended tt (n, (k, tt)) ws)) (fact 𝓤 (r ≡ judgedBatchOf n k)))
 
-  pub begin-of : (s : Oep060Timing) (r : Carried) → ent 𝓤 (ensured 𝓤 H A begin.ended (begin.clauses 𝓤 H A mem run) tt (s, tt) tt r) (fact 𝓤 (r ≡ beginOf s))
+  pub begin-of : (s : Chosen) (r : Carried) → ent 𝓤 (ensured 𝓤 H A begin.ended (begin.clauses 𝓤 H A mem run) tt (s, tt) tt r) (fact 𝓤 (r ≡ beginOf s))
   begin-of s r = exE 𝓤 _ (λ ws. snd∗ 𝓤 (sem 𝓤 H A (lasts begin.ended tt (s, tt) ws)) (fact 𝓤 (r ≡ beginOf s)))
 
-  pub step-of : (s : Oep060Timing) (r : Retirement) (x : Stepped) → ent 𝓤 (ensured 𝓤 H A step.ended (step.clauses 𝓤 H A mem run) tt (s, (r, tt)) tt x) (fact 𝓤 (x ≡ steppedOf s r))
-  step-of s r x = exE 𝓤 _ (λ ws. snd∗ 𝓤 (sem 𝓤 H A (lasts step.ended tt (s, (r, tt)) ws)) (fact 𝓤 (x ≡ steppedOf s r)))
+  pub step-of : (s : Chosen) (r : Retirement) (x : Stepped) → ent 𝓤 (ensured 𝓤 H A step.ended (step.clauses 𝓤 H A mem run) tt (s, (r, tt)) tt x) (fact 𝓤 (x ≡ steppedOf (s .profile) (s .timing) r))
+  step-of s r x = exE 𝓤 _ (λ ws. snd∗ 𝓤 (sem 𝓤 H A (lasts step.ended tt (s, (r, tt)) ws)) (fact 𝓤 (x ≡ steppedOf (s .profile) (s .timing) r)))
 
   pub finish-of : (c : Carried) (v : Judged) (r : Ran) → ent 𝓤 (ensured 𝓤 H A finish.ended (finish.clauses 𝓤 H A mem run) tt (c, (v, tt)) tt r) (fact 𝓤 (r ≡ finishOf c v))
   finish-of c v r = exE 𝓤 _ (λ ws. snd∗ 𝓤 (sem 𝓤 H A (lasts finish.ended tt (c, (v, tt)) ws)) (fact 𝓤 (r ≡ finishOf c v)))

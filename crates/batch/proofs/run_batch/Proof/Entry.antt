@@ -23,13 +23,12 @@ use denote.Triple.Statement.{Triple}
 use denote.Triple.Entry.{Vals}
 use denote.Triple.Walked.{Stays, stay-none-slice, stay-slice, stay-none, walkOf}
 use denote.Exit.{yes}
-use Rattle.state.specs.declared.Oep060Timing.{Oep060Timing}
+use Rattle.batch.specs.declared.Chosen.{Chosen}
 use Rattle.state.specs.declared.Retirement.{Retirement}
-use Rattle.state.specs.Timing.{seenOf}
 use Rattle.refusals.specs.declared.outcome.Ran.{Ran}
 use Rattle.batch.specs.declared.Judged.{Judged}
-use Rattle.batch.specs.Turning.{judgedBatchOf, finishOf}
-use Rattle.state.proofs.Oep060Timing as S
+use Rattle.batch.specs.Turning.{judgedBatchOf, seenChosen, finishOf}
+use Rattle.batch.proofs.Chosen as S
 use Rattle.state.proofs.Retirement as R
 use Rattle.batch.proofs.Run.{runs-within}
 use Rattle.batch.proofs.Loop.{Now, rec}
@@ -37,7 +36,7 @@ use Rattle.batch.proofs.judge_batch.Symbol.{name as #judge}
 use Rattle.batch.proofs.begin.Symbol.{name as #begin}
 use Rattle.batch.proofs.finish.Symbol.{name as #finish}
 use Rattle.batch.proofs.pay.Symbol.{name as #pay}
-use Rattle.step.proofs.cycles_060.Symbol.{name as #step}
+use Rattle.batch.proofs.step_chosen.Symbol.{name as #step}
 use Rattle.batch.proofs.run_batch as f
 use Rattle.batch.proofs.run_batch.Proof.Values.{svals}
 use Rattle.batch.proofs.run_batch.Proof.Cited.{Judge, Begin, Step, Pay, Finish}
@@ -68,7 +67,7 @@ pub record Setting {M : Type 1} (𝓤 : URA M) (H : Heap 𝓤) (A : Atoms 𝓤) 
   pub o′ : ℕ
   pub γ′ : GName
   pub ps : List ℕ
-  pub s : Oep060Timing
+  pub s : Chosen
   pub room : Room R.the-row (length rs)
   pub room′ : Room u32 (length ps)
   pub s-is : Is S.the-row s (svals s)
@@ -83,7 +82,7 @@ module _ {M : Type 1} {𝓤 : URA M} {H : Heap 𝓤} {A : Atoms 𝓤} (Z : Setti
   abbrev pub costs-ref : GName → List ℕ → RefT (List ℕ)
   costs-ref δ l = record { ptr = (b′, o′); name = δ; now = l }
 
-  abbrev pub args : RefT (List Retirement) × (RefT (List ℕ) × (Oep060Timing × Unit {0}))
+  abbrev pub args : RefT (List Retirement) × (RefT (List ℕ) × (Chosen × Unit {0}))
   args = (rs-ref, (costs-ref γ′ ps, (s, tt)))
 
   abbrev pub rs-val : Val
@@ -106,8 +105,8 @@ module _ {M : Type 1} {𝓤 : URA M} {H : Heap 𝓤} {A : Atoms 𝓤} (Z : Setti
   count = judged .run
 
   -- the state as it is read
-  abbrev pub start : Oep060Timing
-  start = seenOf s
+  abbrev pub start : Chosen
+  start = seenChosen s
 
   pub here : count ≤ length rs
   here = runs-within (length rs) (length ps) .0

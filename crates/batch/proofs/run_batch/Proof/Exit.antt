@@ -17,8 +17,8 @@ use denote.Struct.Laws as LL
 use denote.Triple.Walked.{says, ends-at}
 use Rattle.refusals.specs.declared.outcome.Ran.{Ran}
 use Rattle.batch.specs.Batch.{batchOutcome, batchOf}
-use Rattle.state.proofs.Oep060Timing as S
-use Rattle.state.proofs.Oep060Timing.Laws as S′
+use Rattle.batch.proofs.Chosen as S
+use Rattle.batch.proofs.Chosen.Laws as S′
 use Rattle.refusals.proofs.outcome.Ran as D
 use Rattle.batch.proofs.Run.{ends-by}
 use Rattle.batch.proofs.Loop.{all-run}
@@ -28,11 +28,11 @@ use Rattle.batch.proofs.run_batch.Proof.Entry.{Setting, stayed, args, a
 module _ {M : Type 1} {𝓤 : URA M} {H : Heap 𝓤} {A : Atoms 𝓤} (Z : Setting 𝓤 H A) where
   open Setting Z using (W, mem, run, κ, κ′, q, q′, rs, ps, s, s-is)
 
-  done-by : (t : N Z) → count Z ≤ t .i → (r : Ran) → r ≡ result-at Z t → batchOutcome r (t .cs) ≡ batchOf rs ps s
+  done-by : (t : N Z) → count Z ≤ t .i → (r : Ran) → r ≡ result-at Z t → batchOutcome r (t .cs) ≡ batchOf (s .profile) rs ps (s .timing)
   unfolding batchOf
   done-by t l r e =
       let sums = all-run (count Z) rs (start Z) ps (here Z) (fits Z) t l in
-      ap (λ (x : Ran). batchOutcome x (t .cs)) e ∙ (λ i. batchOutcome (record { verdict = judged Z .verdict; count = (count Z); total = sums .1 i; timing = sums .0 i }) (sums .2 i)) ∙ ends-by (judged Z .verdict) rs ps s
+      ap (λ (x : Ran). batchOutcome x (t .cs)) e ∙ (λ i. batchOutcome (record { verdict = judged Z .verdict; count = (count Z); total = sums .1 i; timing = sums .0 i .timing }) (sums .2 i)) ∙ ends-by (judged Z .verdict) rs ps s
 
   pub exits : (t : N Z) → count Z ≤ t .i → (r : Ran) (w : Val) → r ≡ result-at Z t
       → ent 𝓤 (⋆ 𝓤 H A (‵ (flft κ q) ∷ ‵ (flft κ′ q′) ∷ ‵ (Records Z) ∷ ‵ (Costs Z (t .cs) (length ps)) ∷ ‵ (D.the-row .own r (w ∷ [])) ∷ [])) (Post Z w)

@@ -32,8 +32,8 @@ use denote.Triple.Clauses.{ensured, lasts}
 use Rattle.state.specs.declared.Retirement.{Retirement}
 use Rattle.state.specs.declared.Stepped.{Stepped}
 use Rattle.batch.specs.declared.Carried.{Carried}
-use Rattle.state.proofs.Oep060Timing as S
-use Rattle.state.proofs.Oep060Timing.Laws as S′
+use Rattle.batch.proofs.Chosen as S
+use Rattle.batch.proofs.Chosen.Laws as S′
 use Rattle.state.proofs.Retirement as R
 use Rattle.state.proofs.Retirement.Laws as R′
 use Rattle.state.proofs.Stepped as X
@@ -42,7 +42,7 @@ use Rattle.batch.proofs.Carried as C
 use Rattle.batch.proofs.Carried.Laws as C′
 use Rattle.batch.proofs.Loop.{none, one-more, is-fewer, fewer, step-at, Paid, onward}
 use Rattle.batch.proofs.Again.{LentAgain, lends-again, comes-back}
-use Rattle.step.proofs.cycles_060 as step
+use Rattle.batch.proofs.step_chosen as step
 use Rattle.batch.proofs.pay as pay
 use Rattle.batch.proofs.run_batch.Code.Mir as code-mir
 use Rattle.batch.proofs.run_batch.Proof.Values.{rvals, state-told, stepped-told, told, offset-fits, next-fits}
@@ -74,10 +74,10 @@ module _ {M : Type 1} {𝓤 : URA M} {H : Heap 𝓤} {A : Atoms 𝓤} (Z : Setti
       assigns ! (of-opd ! (load ! (from ! (stop !)) (look ! 10 refl))) (from ! (stop !)) (init ! 5 refl (r-typed (record-at Z t) g)) $
       elem-back ! R.the-row q₁ rs (t .i) none (rvals (record-at Z t)) b o (lt-of-lt-of-le l (here Z)) $
       -- [the records; _6; _7; _8; room for _9; _12; …; _15; room for _16 and _17; what costs owns; costs' token; _1; _2; …]: the step
-      owned ! S.the-row (Is S.the-row) (LL.makes S.the-type S′.the-plain 𝓤 H A) (t .c .timing) _ (state-told (t .c) (t .is)) $ use1 W (raw (Step 𝓤 H A mem run .pre (to-step Z t))) (goes-step Z t g) $
+      owned ! S.the-row (Is S.the-row) (LL.makes S.the-type S′.the-plain 𝓤 H A) (t .c .chosen) _ (state-told (t .c) (t .is)) $ use1 W (raw (Step 𝓤 H A mem run .pre (to-step Z t))) (goes-step Z t g) $
       calls-at ! (fmOf 𝓤 H (W .laws) 𝓣) (Step 𝓤 H A mem run) known-step (to-step Z t) (and-then ! (load ! (from ! (fld ! refl (stop !))) (look-in ! 2 (sub ! 0 refl (whole !)))) (and-then ! (load ! (from ! (stop !)) (look ! 4 refl)) (no-more !))) (λ u.
-      use1 W (later (some (λ (x : Stepped). (‵ ftrue ⊛ ‵ (X.the-row .own x (u ∷ []))) ⊛ raw (ensured 𝓤 H A step.ended (step.clauses 𝓤 H A mem run) tt (t .c .timing, (record-at Z t, tt)) tt x)))) (id⊢ 𝓤 _) $ await ! tt $ pick ! (λ x.
-      split ! $ move ! (1 ∷ []) $ use1 W (raw (fact 𝓤 (x ≡ step-at (count Z) rs (start Z) ps t))) (step-of 𝓤 H A mem run (t .c .timing) (record-at Z t) x) $ heard ! (x ≡ step-at (count Z) rs (start Z) ps t) (λ x-by. split ! $ let-go ! $
+      use1 W (later (some (λ (x : Stepped). (‵ ftrue ⊛ ‵ (X.the-row .own x (u ∷ []))) ⊛ raw (ensured 𝓤 H A step.ended (step.clauses 𝓤 H A mem run) tt (t .c .chosen, (record-at Z t, tt)) tt x)))) (id⊢ 𝓤 _) $ await ! tt $ pick ! (λ x.
+      split ! $ move ! (1 ∷ []) $ use1 W (raw (fact 𝓤 (x ≡ step-at (count Z) rs (start Z) ps t))) (step-of 𝓤 H A mem run (t .c .chosen) (record-at Z t) x) $ heard ! (x ≡ step-at (count Z) rs (start Z) ps t) (λ x-by. split ! $ let-go ! $
       peeks ! X.the-row (Is X.the-row) (shows 𝓤 H A X.the-row) x (u ∷ []) (λ x-is. land ! (from ! (stop !)) (init ! 5 refl (LL.lawful X.the-type X′.the-laws 𝓤 H A W .typed x _ x-is .0)) $ let-go ! $
       rewrite ! 4 (λ (v : Val). ‵ (fat fullShare X′.mir l₉ 0 v)) (ap only (LL.tells X.the-type X′.the-laws x _ x-is)) refl $
       -- [the records; _6; _7; _8; _9; _12; …; _15; room for _16 and _17; what costs owns; costs' token; _1; _2; …]: the reference

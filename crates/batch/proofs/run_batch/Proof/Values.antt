@@ -8,13 +8,13 @@ use mir.Val.{Val}
 use denote.Laws.{Is}
 use denote.Slice.{Room}
 use denote.Struct.Laws as LL
-use Rattle.state.specs.declared.Oep060Timing.{Oep060Timing}
+use Rattle.batch.specs.declared.Chosen.{Chosen}
 use Rattle.state.specs.declared.Retirement.{Retirement}
 use Rattle.state.specs.declared.Stepped.{Stepped}
 use Rattle.batch.specs.declared.Carried.{Carried}
 use Rattle.batch.specs.declared.Judged.{Judged}
-use Rattle.state.proofs.Oep060Timing as S
-use Rattle.state.proofs.Oep060Timing.Laws as S′
+use Rattle.batch.proofs.Chosen as S
+use Rattle.batch.proofs.Chosen.Laws as S′
 use Rattle.state.proofs.Retirement as R
 use Rattle.state.proofs.Retirement.Laws as R′
 use Rattle.state.proofs.Stepped as X
@@ -28,10 +28,10 @@ use Rattle.batch.proofs.Loop.{cvals}
 abbrev pub rvals : Retirement → List Val
 rvals = LL.vals R.the-type R′.the-laws
 
-abbrev pub svals : Oep060Timing → List Val
+abbrev pub svals : Chosen → List Val
 svals = LL.vals S.the-type S′.the-laws
 
-abbrev pub smach : Oep060Timing → Val
+abbrev pub smach : Chosen → Val
 smach = LL.val S.the-type S′.the-laws
 
 abbrev pub xvals : Stepped → List Val
@@ -57,7 +57,7 @@ pub told : (c : Carried) (w : Val) → Is C.the-row c (w ∷ []) → Is C.the-ro
 told c w is = subst (Is C.the-row c) (LL.tells C.the-type C′.the-laws c _ is) is
 
 -- the state that is carried
-pub state-told : (c : Carried) → Is C.the-row c (cvals c) → Is S.the-row (c .timing) (svals (c .timing))
+pub state-told : (c : Carried) → Is C.the-row c (cvals c) → Is S.the-row (c .chosen) (svals (c .chosen))
 state-told c is = LL.owed C.the-type C′.the-laws c (cvals c) is .0
 
 -- the offset of an element that is there fits a usize, since the elements have room

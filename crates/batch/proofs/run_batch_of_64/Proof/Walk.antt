@@ -42,13 +42,13 @@ use denote.Triple.Spec.{tripleOf}
 use denote.Triple.Walked.{says, Stays, stay-none, gave-slice, walkOf, ends-at}
 use denote.Exit.{yes}
 use Rattle.state.specs.declared.Retirement.{Retirement}
-use Rattle.state.specs.declared.Oep060Timing.{Oep060Timing}
+use Rattle.batch.specs.declared.Chosen.{Chosen}
 use Rattle.refusals.specs.declared.outcome.Ran.{Ran}
 use Rattle.batch.specs.Batch.{batchOutcome, batchOf}
 use Rattle.state.proofs.Retirement as R
 use Rattle.state.proofs.Retirement.Laws as R′
-use Rattle.state.proofs.Oep060Timing as S
-use Rattle.state.proofs.Oep060Timing.Laws as S′
+use Rattle.batch.proofs.Chosen as S
+use Rattle.batch.proofs.Chosen.Laws as S′
 use Rattle.refusals.proofs.outcome.Ran as D
 use Rattle.refusals.proofs.outcome.Ran.Laws as D′
 use Rattle.batch.proofs.least as least
@@ -62,10 +62,10 @@ use Rattle.batch.proofs.run_batch_of_64.Proof.Records.{All, avals, amac
 abbrev pub stayed : Stays (f.ended .signature .params) (f.ended .kept)
 stayed = (stay-none (λ _. All) yes, (stay-none (λ _. usize) yes, (gave-slice (0 ∷ []) tt (plain (λ _. u32)), (stay-none (λ _. S.the-row) yes, tt))))
 
-abbrev pub svals : Oep060Timing → List Val
+abbrev pub svals : Chosen → List Val
 svals = LL.vals S.the-type S′.the-laws
 
-abbrev pub smach : Oep060Timing → Val
+abbrev pub smach : Chosen → Val
 smach = LL.val S.the-type S′.the-laws
 
 -- so few records have room
@@ -79,7 +79,7 @@ Least 𝓤 H A mem run = tripleOf 𝓤 H A least.signature (least.spec 𝓤 H A 
 abbrev pub Batch : {M : Type 1} (𝓤 : URA M) (H : Heap 𝓤) (A : Atoms 𝓤) (mem : Memory → SProp 𝓤) (run : Routine → Fun 𝓤) → Contract 𝓤
 Batch 𝓤 H A mem run = tripleOf 𝓤 H A g.signature (g.spec 𝓤 H A mem run)
 
-module _ {M : Type 1} (𝓤 : URA M) (H : Heap 𝓤) (A : Atoms 𝓤) (W : Given 𝓤 H A) (mem : Memory → SProp 𝓤) (run : Routine → Fun 𝓤) (κ : Lft) (q : Share) (rs : List Retirement) (n b o : ℕ) (γ : GName) (ps : List ℕ) (s : Oep060Timing)
+module _ {M : Type 1} (𝓤 : URA M) (H : Heap 𝓤) (A : Atoms 𝓤) (W : Given 𝓤 H A) (mem : Memory → SProp 𝓤) (run : Routine → Fun 𝓤) (κ : Lft) (q : Share) (rs : List Retirement) (n b o : ℕ) (γ : GName) (ps : List ℕ) (s : Chosen)
     (room : Room u32 (length ps)) (rs-is : Is All rs (avals rs)) (n-fits : n < 2 ^ 64) (s-is : Is S.the-row s (svals s)) where
   all-are : length rs ≡ 64
   all-are = rs-is .1 .0 .1
@@ -100,7 +100,7 @@ module _ {M : Type 1} (𝓤 : URA M) (H : Heap 𝓤) (A : Atoms 𝓤) (W : Given
   abbrev pub yv : Val
   yv = sliceVal (b, o) (length ps)
 
-  abbrev pub a : List Retirement × (ℕ × (RefT (List ℕ) × (Oep060Timing × Unit {0})))
+  abbrev pub a : List Retirement × (ℕ × (RefT (List ℕ) × (Chosen × Unit {0})))
   a = (rs, (n, (y, (s, tt))))
 
   abbrev pub vals : Vals f.signature (κ, tt)
@@ -111,7 +111,7 @@ module _ {M : Type 1} (𝓤 : URA M) (H : Heap 𝓤) (A : Atoms 𝓤) (W : Given
 
   -- what `run_batch` ensures
   abbrev pub Told : Ran → List ℕ → Type 0
-  Told r zs = batchOutcome r zs ≡ batchOf run-of ps s
+  Told r zs = batchOutcome r zs ≡ batchOf (s .profile) run-of ps (s .timing)
 
   exits : (r : Ran) (w : Val) (zs : List ℕ) → Told r zs → length zs ≡ length ps
       → ent 𝓤 (sep 𝓤 (sep 𝓤 (A .lft κ q) (sem 𝓤 H A ftrue)) (sep 𝓤 (sem 𝓤 H A (finally u32 γ zs)) (sem 𝓤 H A (D.the-row .own r (w ∷ []))))) (Post w)

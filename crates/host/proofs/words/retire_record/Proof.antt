@@ -4,6 +4,7 @@ use mathlib.Core.Path.{refl, ap, _∙_}
 use mir.Facts.{toZ-ofZ}
 use mir.Syntax.{w32}
 use lib.Bits.{and-mask, mask-lt}
+use Rattle.profile.specs.Profile.{profileAt}
 use Rattle.in_place.specs.Lent.{lent}
 use Rattle.in_place.specs.Retire.{retireAtOf}
 use Rattle.host.proofs.WordsLaws.{record-is}
@@ -54,7 +55,7 @@ returns c =
     let a = h .before .before .args in
     let z = c .before .i32-of in
     c .retire-at .ensures
-    ∙ ap (retireAtOf (lent (a .tags .now) (a .state .now) (a .window .now)))
+    ∙ ap (retireAtOf (profileAt (a .profile)) (lent (a .tags .now) (a .state .now) (a .window .now)))
     (record-is (a .records .now) (a .i) (and-mask (h .word-at .result) 16) refl (h .word-at .ensures) (k .before .before .word-at2 .ensures) (k .before .word-at3 .ensures)
     (k .word-at4 .ensures) (toZ-ofZ {w = w32} {z = z .result} (record { sfits = z .ok }) ∙ z .ensures))
 

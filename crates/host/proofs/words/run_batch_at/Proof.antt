@@ -1,6 +1,7 @@
 -- `run_batch_at`: by the batch's own verdict.
 -- Assumes nothing.
 use mathlib.Core.Path.{sym, _∙_}
+use Rattle.profile.specs.Profile.{profileAt}
 use Rattle.in_place.specs.Lent.{lent}
 use Rattle.host.proofs.Batch.{accepted-within, batch-refused, batch-accepted}
 use borrow.Author.Needs.{needs}
@@ -32,7 +33,7 @@ returns c =
     let k = c .before in
     let v = k .before .before in
     let a = v .before .before .before .args in
-    batch-refused (a .records .now) (a .costs .now) (lent (a .tags .now) (a .state .now) (a .window .now)) (k .enum-told .given .1) (v .batch-verdict .ensures) (c .host-ran .ensures)
+    batch-refused (profileAt (a .profile)) (a .records .now) (a .costs .now) (lent (a .tags .now) (a .state .now) (a .window .now)) (k .enum-told .given .1) (v .batch-verdict .ensures) (c .host-ran .ensures)
 
 same-length : tie.Need-same-length
 same-length c = search needs
@@ -43,7 +44,7 @@ returns-2 c =
     let k = w .before .before .before .before .before in
     let v = k .before .before in
     let a = v .before .before .before .args in
-    batch-accepted (a .records .now) (a .costs .now) (lent (a .tags .now) (a .state .now) (a .window .now)) (k .enum-told2 .given .1) (v .batch-verdict .ensures) (c .host-ran2 .ensures) (w .run-words .ensures)
+    batch-accepted (profileAt (a .profile)) (a .records .now) (a .costs .now) (lent (a .tags .now) (a .state .now) (a .window .now)) (k .enum-told2 .given .1) (v .batch-verdict .ensures) (c .host-ran2 .ensures) (w .run-words .ensures)
 
 pub run-batch-at-spec : {M : Type 1} → statement M
 run-batch-at-spec =

@@ -4,6 +4,7 @@ use mathlib.Core.Path.{_≡_, refl, _∙_}
 use Prim.Native.Nat.{_*_, _-_, _/_, _^_, _<_, _≤_}
 use native.Mathlib.Omega.{arith}
 use lib.ListN.{length, drop}
+use Rattle.profile.specs.Profile.{profileAt}
 use Rattle.state.specs.Timing.{timingAt}
 use Rattle.in_place.specs.WindowNumbers.{windowAt, numbersOf}
 use Rattle.in_place.specs.Lent.{lent, stateAt}
@@ -15,16 +16,16 @@ use Rattle.host.proofs.words.run_words.Statement.{statement}
 use Rattle.host.proofs.words.run_words.Tie as tie
 
 abbrev Inv-loop : tie.InvT-loop
-Inv-loop records costs₀ tags₀ state₀ window₀ count total₀ i₀ costs tags state window total i =
+Inv-loop records costs₀ tags₀ state₀ window₀ profile count total₀ i₀ costs tags state window total i =
     (i ≤ length records / 4)
     × (length costs ≡ length costs₀)
     × (total ≤ i * 4294967295)
     × (numbersOf (windowAt window) ≡ window)
-    × (restOf i total costs (timingAt tags state (windowAt window)) (retirementsOf (drop (4 * i) records))
-    ≡ restOf 0 0 costs₀ (timingAt tags₀ state₀ (windowAt window₀)) (retirementsOf records))
+    × (restOf (profileAt profile) i total costs (timingAt tags state (windowAt window)) (retirementsOf (drop (4 * i) records))
+    ≡ restOf (profileAt profile) 0 0 costs₀ (timingAt tags₀ state₀ (windowAt window₀)) (retirementsOf records))
 
 abbrev μ-loop : tie.MeasureT-loop
-μ-loop records costs₀ tags₀ state₀ window₀ count total₀ i₀ costs tags state window total i = length records / 4 - i
+μ-loop records costs₀ tags₀ state₀ window₀ profile count total₀ i₀ costs tags state window total i = length records / 4 - i
 
 -- a cost is a number of 32 bits
 small : (k : tie.After-retire-record Inv-loop μ-loop) → k .retire-record .result .0 < 2 ^ 32
@@ -63,14 +64,15 @@ loop-again c =
     let l = k .loop in
     let b = k .before .before .before .before .before in
     let a = b .args in
+    let p = profileAt (a .profile) in
     let from = lent (l .tags) (l .state) (l .window) in
     let r = wordsAt (a .records .now) (l .i) in
     let e = c .before .retire-record .ensures in (
       omega arith,
       search needs,
       omega (arith, l .inv .2, small (c .before)),
-      window-plain from r e,
-      rest-again (a .records .now) (l .costs) (l .i) (l .total) (stateAt from) (omega arith) (omega (arith, l .inv .1, b .pre)) (stepped-held from r e) ∙ l .inv .4,
+      window-plain p from r e,
+      rest-again p (a .records .now) (l .costs) (l .i) (l .total) (stateAt from) (omega arith) (omega (arith, l .inv .1, b .pre)) (stepped-held p from r e) ∙ l .inv .4,
     )
 
 same-length : tie.Need-same-length Inv-loop μ-loop
@@ -81,7 +83,7 @@ returns c =
     let l = c .before .loop in
     let w = c .before .before in
     let a = w .before .before .before .before .args in
-    run-ends (a .records .now) (l .costs) (a .costs .now) (l .i) (l .total) (lent (l .tags) (l .state) (l .window)) (lent (a .tags .now) (a .state .now) (a .window .now))
+    run-ends (profileAt (a .profile)) (a .records .now) (l .costs) (a .costs .now) (l .i) (l .total) (lent (l .tags) (l .state) (l .window)) (lent (a .tags .now) (a .state .now) (a .window .now))
     (omega arith) (l .inv .3) (w .see-window .ensures) (l .inv .4)
 
 pub run-words-spec : {M : Type 1} → statement M

@@ -13,7 +13,7 @@ see-window-requires : tie.Need-see-window-requires
 see-window-requires c κs = search needs
 
 returns : tie.Need-returns
-returns c = λ tags. ap (λ (ns : List ℕ). lent tags (replicate 256 0) ns) (c .see-window .ensures)
+returns c = λ p tags. ap (λ (ns : List ℕ). lent tags (replicate 256 0) ns) (c .see-window .ensures)
 
 pub clear-all-at-spec : {M : Type 1} → statement M
 clear-all-at-spec = tie.close (tie.spec see-window-requires returns)

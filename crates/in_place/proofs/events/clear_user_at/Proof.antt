@@ -16,7 +16,7 @@ see-window-requires : tie.Need-see-window-requires
 see-window-requires c κs = search needs
 
 returns : tie.Need-returns
-returns c = λ tags. ap₂ (λ (x : BranchCache060) (ns : List ℕ). lent tags (x .state) ns) (c .before .before .before .clear-user .ensures) (c .see-window .ensures)
+returns c = λ p tags. ap₂ (λ (x : BranchCache060) (ns : List ℕ). lent tags (x .state) ns) (c .before .before .before .clear-user .ensures) (c .see-window .ensures)
 
 pub clear-user-at-spec : {M : Type 1} → statement M
 clear-user-at-spec = tie.close (tie.spec clear-user-requires see-window-requires returns)

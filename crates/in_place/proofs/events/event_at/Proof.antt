@@ -4,6 +4,7 @@ use mathlib.Core.Path.{_≡_, refl, sym, ap, _∙_}
 use mathlib.Core.List.{List, [], _∷_}
 use Prim.Native.Nat.{ℕ}
 use Rattle.class_word.specs.Word.{clocks}
+use Rattle.profile.specs.declared.Profile.{Profile}
 use Rattle.state.specs.declared.Event.{Event}
 use Rattle.state.specs.Events.{countOf}
 use Rattle.in_place.specs.Lent.{Lent, lent}
@@ -16,8 +17,8 @@ abbrev from : tie.Start → Lent
 from s = lent (s .args .tags .now) (s .args .state .now) (s .args .window .now)
 
 -- what holds of the event that the arm names holds of this one
-told : (l : Lent) {e x : Event} → e ≡ x → {p : Paid} → p ≡ paidFor l x → {n : ℕ} → n ≡ countOf (x ∷ []) → (p ≡ paidFor l e) × (n ≡ countOf (e ∷ []))
-told l h q m = (q ∙ sym (ap (paidFor l) h), m ∙ sym (ap (λ (y : Event). countOf (y ∷ [])) h))
+told : (p : Profile) (l : Lent) {e x : Event} → e ≡ x → {y : Paid} → y ≡ paidFor p l x → {n : ℕ} → n ≡ countOf (x ∷ []) → (y ≡ paidFor p l e) × (n ≡ countOf (e ∷ []))
+told p l h q m = (q ∙ sym (ap (paidFor p l) h), m ∙ sym (ap (λ (y : Event). countOf (y ∷ [])) h))
 
 enum-known-e : tie.Need-enum-known-e
 enum-known-e c = search needs
@@ -46,25 +47,26 @@ clear-user-at-requires c κs = search needs
 returns : tie.Need-returns
 returns c =
     let k = c .before .before .before .before .before in
-    told (from (k .before .before)) (k .e .given .1) (c .retire-in-place .ensures) refl
+    let s = k .before .before in
+    told (s .args .profile) (from s) (k .e .given .1) (c .retire-in-place .ensures) refl
 
 returns-2 : tie.Need-returns-2
 returns-2 c =
     let k = c .before .before in
     let s = k .before .before in
-    told (from s) (k .enum-told .given .1) (ap (λ (ns : List ℕ). paid (clocks 0) (lent (s .args .tags .now) (s .args .state .now) ns)) (c .shut-window .ensures)) refl
+    told (s .args .profile) (from s) (k .enum-told .given .1) (ap (λ (ns : List ℕ). paid (clocks 0) (lent (s .args .tags .now) (s .args .state .now) ns)) (c .shut-window .ensures)) refl
 
 returns-3 : tie.Need-returns-3
 returns-3 c =
     let k = c .before .before .before in
     let s = k .before .before in
-    told (from s) (k .enum-told2 .given .1) (ap (paid (clocks 0)) (c .clear-all-at .ensures (s .args .tags .now))) refl
+    told (s .args .profile) (from s) (k .enum-told2 .given .1) (ap (paid (clocks 0)) (c .clear-all-at .ensures (s .args .profile) (s .args .tags .now))) refl
 
 returns-4 : tie.Need-returns-4
 returns-4 c =
     let k = c .before .before .before in
     let s = k .before .before in
-    told (from s) (k .enum-told3 .given .1) (ap (paid (clocks 0)) (c .clear-user-at .ensures (s .args .tags .now))) refl
+    told (s .args .profile) (from s) (k .enum-told3 .given .1) (ap (paid (clocks 0)) (c .clear-user-at .ensures (s .args .profile) (s .args .tags .now))) refl
 
 pub event-at-spec : {M : Type 1} → statement M
 event-at-spec =

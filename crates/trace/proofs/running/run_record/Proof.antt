@@ -5,7 +5,7 @@ use borrow.Author.Needs.{needs}
 use Prim.Native.Nat.{ℕ}
 use Rattle.in_place.specs.Lent.{Lent, lent}
 use Rattle.in_place.specs.Retire.{Paid}
-use Rattle.trace.specs.TraceTurns.{Turned, turned, turnOf}
+use Rattle.trace.specs.TraceTurns.{turned, turnOf}
 use Rattle.trace.proofs.running.run_record.Statement.{statement}
 use Rattle.trace.proofs.running.run_record.Tie as tie
 
@@ -33,17 +33,17 @@ returns c =
     let s = k .before .before .before .before in
     let got = k .read .given .0 in
     let h = c .before .event-at in
-    ap₂ (λ (p : Paid) (n : ℕ). turned (record { next = got .1 .0; count = n; cost = p .cost }) (p .lent)) (h .ensures .0) (h .ensures .1) ∙ sym (ap (turnOf (s .args .at) (from s)) (sym (k .before .before .read-record .ensures) ∙ k .read .given .1))
+    ap₂ (λ (p : Paid) (n : ℕ). turned (record { next = got .1 .0; count = n; cost = p .cost }) (p .lent)) (h .ensures .0) (h .ensures .1) ∙ sym (ap (turnOf (s .args .profile) (s .args .at) (from s)) (sym (k .before .before .read-record .ensures) ∙ k .read .given .1))
 
 returns-2 : tie.Need-returns-2
 returns-2 c =
     let s = c .before .before .before .before in
-    sym (ap (turnOf (s .args .at) (from s)) (sym (c .before .before .read-record .ensures) ∙ c .enum-told .given .1))
+    sym (ap (turnOf (s .args .profile) (s .args .at) (from s)) (sym (c .before .before .read-record .ensures) ∙ c .enum-told .given .1))
 
 returns-3 : tie.Need-returns-3
 returns-3 c =
     let s = c .before .before .before .before in
-    sym (ap (turnOf (s .args .at) (from s)) (sym (c .before .before .read-record .ensures) ∙ c .enum-told2 .given .1))
+    sym (ap (turnOf (s .args .profile) (s .args .at) (from s)) (sym (c .before .before .read-record .ensures) ∙ c .enum-told2 .given .1))
 
 pub run-record-spec : {M : Type 1} → statement M
 run-record-spec =

@@ -1,4 +1,4 @@
--- `replay::main`: what was read lies within the bytes, and the text within its own.
+-- `cost_lister::list`: what was read lies within the bytes, and the text within its own.
 -- Assumes nothing.
 use Prim.Native.Nat.{_≤_}
 use mathlib.Core.Path.{sym, subst}
@@ -6,8 +6,8 @@ use lib.ListN.{length}
 use lib.Seq.{length-take-le}
 use Rattle.input.specs.Input.{Within}
 use borrow.Author.Needs.{needs}
-use Rattle.replay.proofs.main.Statement.{statement}
-use Rattle.replay.proofs.main.Tie as tie
+use Rattle.cost_lister.proofs.list.Statement.{statement}
+use Rattle.cost_lister.proofs.list.Tie as tie
 
 taken : (d : tie.After-known-told) → d .before .came .given .0 .0 ≤ length (d .before .before .before .before .read-input .last .0)
 taken d = subst (Within (length (d .before .before .before .before .read-input .last .0))) (d .before .came .given .1) (d .before .before .before .before .read-input .ensures)
@@ -33,17 +33,20 @@ enum-known-came c = search needs
 array-share-prefix-bytes : tie.Need-array-share-prefix-bytes
 array-share-prefix-bytes c = taken c
 
-slice-aggregate-replay-text : tie.Need-slice-aggregate-replay-text
-slice-aggregate-replay-text c = sym (length-take-le _ _ (taken (c .before)))
+slice-aggregate-list-trace : tie.Need-slice-aggregate-list-trace
+slice-aggregate-list-trace c = sym (length-take-le _ _ (taken (c .before)))
 
-replay-text-requires : tie.Need-replay-text-requires
-replay-text-requires c κs = search needs
+fresh-requires : tie.Need-fresh-requires
+fresh-requires c κs = search needs
+
+list-trace-requires : tie.Need-list-trace-requires
+list-trace-requires c κs = search needs
 
 array-share-prefix-text : tie.Need-array-share-prefix-text
-array-share-prefix-text c = search needs
+array-share-prefix-text c = c .list-trace .ensures .1
 
 slice-aggregate-write-all-2 : tie.Need-slice-aggregate-write-all-2
-slice-aggregate-write-all-2 c = sym (length-take-le _ _ (c .before .replay-text .ensures .1))
+slice-aggregate-write-all-2 c = sym (length-take-le _ _ (c .before .list-trace .ensures .1))
 
 write-all-requires-2 : tie.Need-write-all-requires-2
 write-all-requires-2 c κs = search needs
@@ -54,8 +57,8 @@ returns c = search needs
 returns-2 : tie.Need-returns-2
 returns-2 c = search needs
 
-pub main-spec : {M : Type 1} → statement M
-main-spec =
+pub list-spec : {M : Type 1} → statement M
+list-spec =
     tie.close
     (tie.spec
     slice-aggregate-read-input
@@ -65,8 +68,9 @@ main-spec =
     write-all-requires
     enum-known-came
     array-share-prefix-bytes
-    slice-aggregate-replay-text
-    replay-text-requires
+    slice-aggregate-list-trace
+    fresh-requires
+    list-trace-requires
     array-share-prefix-text
     slice-aggregate-write-all-2
     write-all-requires-2
