@@ -10,10 +10,12 @@ namespace {
 
 const uint16_t KEPT = TIMING_060_CACHED | TIMING_060_ESS | TIMING_060_EBC | TIMING_060_SUPERVISOR;
 const uint64_t ACCEPTED = TIMING_060_ACCEPTED;
+const uint32_t CRATE = TIMING_060_PROFILE_CRATE, MENDED = TIMING_060_PROFILE_MENDED;
 
 void steps() {
     timing_060 t;
-    timing_060_fresh(&t);
+    timing_060_fresh(&t, MENDED);
+    expect(t.profile == MENDED, "the profile of a fresh state");
     expect(timing_060_retire(&t, 0x7000, KEPT, 0x1000, 0x1002, 4) == 1, "the clocks of MOVEQ into D0");
     expect(t.window[TIMING_060_WINDOW_OPEN] == 1, "the window behind it");
     timing_060_break(&t);
@@ -23,9 +25,26 @@ void steps() {
     expect(t.state[0] == 0 && t.state[1] == 4, "the slots after a clear of user entries");
     timing_060_clear_all(&t);
     expect(t.state[1] == 0, "the slots after a clear of all");
-    expect(timing_060_class_word(0x7000) == 0x0404, "the class word of MOVEQ");
-    timing_060_masks m = timing_060_masks_of(0x7000);
-    expect(m.uses == 0 && m.defs == 1, "the masks of MOVEQ");
+    expect(t.profile == MENDED, "the profile after breaks and clears");
+}
+
+// EOR.W D0,D1 and MOVE.W D1,D2, which reads what the EOR writes; and CMPM.B (A0)+,(A1)+, of which the crate's profile
+// has no memory.
+void profiles() {
+    static const uint32_t NUMBERS[] = {CRATE, MENDED, 2, 0x10001, 0xFFFFFFFF};
+    for (uint32_t profile : NUMBERS) {
+        const bool mended = profile == MENDED;
+        timing_060 t;
+        timing_060_fresh(&t, profile);
+        expect(timing_060_retire(&t, 0xB141, KEPT, 0x1000, 0x1002, 4) == 1, "the clocks of EOR");
+        expect(timing_060_retire(&t, 0x3401, KEPT, 0x1002, 0x1004, 4) == (mended ? 1 : 0), "the clocks behind EOR");
+        expect(timing_060_class_word(0x7000, profile) == 0x0404, "the class word of MOVEQ");
+        expect(timing_060_class_word(0xB308, profile) == (mended ? 0x4404 : 0x0404), "the class word of CMPM");
+        timing_060_masks m = timing_060_masks_of(0x7000, profile);
+        expect(m.uses == 0 && m.defs == 1, "the masks of MOVEQ");
+        m = timing_060_masks_of(0xB141, profile);
+        expect(m.uses == 3 && m.defs == (mended ? 2 : 0), "the masks of EOR");
+    }
 }
 
 void runs() {
@@ -49,7 +68,7 @@ void lent() {
     uint32_t place = 9;
     uint8_t image[TIMING_060_IMAGE_BYTES];
     timing_060_fresh_at(t.tags, t.state, t.window);
-    expect(timing_060_retire_at(t.tags, t.state, t.window, 0x7000, KEPT, 0x1000, 0x1002, 4) == 1, "a step");
+    expect(timing_060_retire_at(t.tags, t.state, t.window, MENDED, 0x7000, KEPT, 0x1000, 0x1002, 4) == 1, "a step");
     timing_060_break_at(t.window);
     timing_060_clear_user_at(t.state, t.window);
     timing_060_clear_all_at(t.state, t.window);
@@ -57,10 +76,12 @@ void lent() {
     timing_060_bytes_mut no_room = {nullptr, 0}, room = {image, sizeof image};
     timing_060_words no_words = {nullptr, 0};
     timing_060_words_mut places = {&place, 1};
-    expect(is(timing_060_run_trace_at(no_bytes, no_room, t.tags, t.state, t.window), ACCEPTED, 0, 0, 0), "no trace");
-    expect(is(timing_060_run_batch_at(no_words, places, t.tags, t.state, t.window), ACCEPTED, 0, 0, 0), "no batch");
+    timing_060_ran ran = timing_060_run_trace_at(no_bytes, no_room, t.tags, t.state, t.window, CRATE);
+    expect(is(ran, ACCEPTED, 0, 0, 0), "no trace");
+    ran = timing_060_run_batch_at(no_words, places, t.tags, t.state, t.window, MENDED);
+    expect(is(ran, ACCEPTED, 0, 0, 0), "no batch");
     expect(place == 9, "the place of no batch");
-    timing_060_ran ran = timing_060_image_write_at(t.tags, t.state, t.window, room);
+    ran = timing_060_image_write_at(t.tags, t.state, t.window, room);
     expect(is(ran, ACCEPTED, 0, sizeof image, 0), "an image written");
     ran = timing_060_image_read_at(no_bytes, t.tags, t.state, t.window);
     expect(is(ran, TIMING_060_REFUSED_IMAGE_LENGTH, 0, 0, 0), "no image");
@@ -70,6 +91,7 @@ void lent() {
 
 static int host(void) {
     steps();
+    profiles();
     runs();
     lent();
     if (failures == 0) print("calls hold\n");

@@ -1,6 +1,6 @@
 /* An example host. It retires the four instructions of document 01's worked trace one by one, and prints the lines that
- * the cost lister prints for them. Then it goes through every other function of timing_060.h once, and holds what they
- * give against that: where anything differs it says so, and its exit status is 1.
+ * the cost lister prints for them. Then it goes through every other function of timing_060.h, in both profiles, and
+ * holds what they give against that: where anything differs it says so, and its exit status is 1.
  *
  * On x86-64, in this folder, after `tools/install PREFIX`, where pkg-config looks into PREFIX/lib/pkgconfig:
  *     cc -o example example.c $(pkg-config --cflags --libs timing_060)
@@ -18,6 +18,7 @@ static void print_opcode(uint16_t op) {
     put(s, 4);
 }
 
+/* What an image has of two states: the profile is not in it. */
 static int same_state(const timing_060 *a, const timing_060 *b) {
     for (int i = 0; i < TIMING_060_SLOTS; i++)
         if (a->tags[i] != b->tags[i] || a->state[i] != b->state[i]) return 0;
@@ -30,6 +31,8 @@ enum {
     INSTRUCTIONS = 4,
     KEPT = TIMING_060_CACHED | TIMING_060_ESS | TIMING_060_EBC | TIMING_060_SUPERVISOR,
     TAKEN = KEPT | TIMING_060_FLOWED,
+    CRATE = TIMING_060_PROFILE_CRATE,
+    MENDED = TIMING_060_PROFILE_MENDED,
     /* what can be refused here, by shorter names */
     OK = TIMING_060_ACCEPTED,
     OVERSIZED = TIMING_060_REFUSED_OVERSIZED,
@@ -104,7 +107,7 @@ static void runs(const timing_060 *stepped) {
     static uint8_t bytes[TIMING_060_COST_BYTES * INSTRUCTIONS + 1];
     static uint32_t places[INSTRUCTIONS + 1];
     timing_060_ran ran;
-    timing_060_fresh(&t);
+    timing_060_fresh(&t, CRATE);
     bytes[sizeof bytes - 1] = 99;
     ran = timing_060_run_trace(&t, WORKED_BYTES, sizeof WORKED_BYTES, bytes, sizeof bytes);
     expect(is(ran, OK, 0, 4, 9), "what the trace gives");
@@ -116,7 +119,7 @@ static void runs(const timing_060 *stepped) {
     expect(same_state(&t, stepped), "the state after a refused trace");
     refused_writes_nothing(bytes, places);
 
-    timing_060_fresh(&t);
+    timing_060_fresh(&t, CRATE);
     places[INSTRUCTIONS] = 99;
     ran = timing_060_run_batch(&t, WORKED, INSTRUCTIONS, places, INSTRUCTIONS + 1);
     expect(is(ran, OK, 0, 4, 9), "what the batch gives");
@@ -183,9 +186,99 @@ static void flags(timing_060 *t) {
     expect(is(ran, FLAG, 0, 0, 0), "the refusal of a flag");
 }
 
+/* EOR.W D0,D1 and MOVE.W D1,D2, which reads what the EOR writes: the crate's profile pairs them, the mended not. */
+static const timing_060_record OVER_PAIRED[2] = {{0xB141, KEPT, 0x1000, 0x1002, 4}, {0x3401, KEPT, 0x1002, 0x1004, 4}};
+static const uint8_t OVER_PAIRED_BYTES[2 * TIMING_060_RECORD_BYTES] = {
+    0x10, 0, 1, 0, 0x41, 0xB1, 0x1E, 0, 0x00, 0x10, 0, 0, 0x02, 0x10, 0, 0, 4, 0, 0, 0,
+    0x10, 0, 1, 0, 0x01, 0x34, 0x1E, 0, 0x02, 0x10, 0, 0, 0x04, 0x10, 0, 0, 4, 0, 0, 0,
+};
+
+static uint32_t retire_one(timing_060 *t, const timing_060_record *r) {
+    return timing_060_retire(t, r->op, r->flags, r->ppc, r->pc, r->raw);
+}
+
+/* The profiles as numbers: 1 is the mended one, any other the crate's. */
+enum { NUMBERS = 5 };
+static const uint32_t NUMBER[NUMBERS] = {CRATE, MENDED, 2, 0x10001, 0xFFFFFFFF};
+
+/* Each through every function that looks at it; only a fresh state sets it. */
+static void profiles(void) {
+    static timing_060 t;
+    static uint8_t bytes[2 * TIMING_060_COST_BYTES], image[IMAGE];
+    static uint32_t places[2];
+    for (int i = 0; i < NUMBERS; i++) {
+        const uint32_t profile = NUMBER[i], second = profile == MENDED;
+        timing_060_fresh(&t, profile);
+        expect(retire_one(&t, &OVER_PAIRED[0]) == 1, "the clocks of EOR");
+        expect(window_is(&t, 1, profile == MENDED ? 2 : 0, 1, 0, 1), "the window behind EOR");
+        timing_060_image_write(&t, image, IMAGE);
+        expect(retire_one(&t, &OVER_PAIRED[1]) == second, "the clocks behind EOR");
+        timing_060_image_read(&t, image, IMAGE);
+        expect(retire_one(&t, &OVER_PAIRED[1]) == second, "the clocks behind EOR, from an image");
+        timing_060_break(&t);
+        timing_060_clear_user(&t);
+        timing_060_clear_all(&t);
+        timing_060_ran ran = timing_060_run_trace(&t, OVER_PAIRED_BYTES, sizeof OVER_PAIRED_BYTES, bytes, sizeof bytes);
+        expect(is(ran, OK, 0, 2, 1 + second) && bytes[0] == 1 && bytes[4] == second, "the trace of EOR");
+        timing_060_break(&t);
+        ran = timing_060_run_batch(&t, OVER_PAIRED, 2, places, 2);
+        expect(is(ran, OK, 0, 2, 1 + second) && places[0] == 1 && places[1] == second, "the batch of EOR");
+        timing_060_image_read(&t, image, 0);
+        expect(t.profile == profile, "the profile in the end");
+    }
+    /* changed between the two: the window keeps what the head defined where it was read */
+    timing_060_fresh(&t, CRATE);
+    retire_one(&t, &OVER_PAIRED[0]);
+    t.profile = MENDED;
+    expect(retire_one(&t, &OVER_PAIRED[1]) == 0, "the clocks behind the crate's EOR");
+    timing_060_fresh(&t, MENDED);
+    retire_one(&t, &OVER_PAIRED[0]);
+    t.profile = CRATE;
+    expect(retire_one(&t, &OVER_PAIRED[1]) == 1, "the clocks behind the mended EOR");
+}
+
+static int same_masks(timing_060_masks a, timing_060_masks b) { return a.uses == b.uses && a.defs == b.defs; }
+
+/* What the mended profile has of an opcode is what the crate's has of others. */
+static void opcodes(void) {
+    static const struct {
+        uint16_t op, word, masks;
+    } AS[] = {
+        {0xB141, 0xB141, 0xD240}, /* EOR.W D0,D1: the masks of ADD.W D0,D1 */
+        {0x49C0, 0x49C0, 0x5040}, /* EXTB.L D0: the masks of ADDQ.W #8,D0 */
+        {0xB308, 0xB018, 0x12D8}, /* CMPM.B (A0)+,(A1)+: the word of CMP.B (A0)+,D0, the masks of MOVE.B (A0)+,(A1)+ */
+        {0x0E00, 0xA000, 0x0E00}, /* MOVES: the word of what is unclassified */
+        {0x8180, 0x8140, 0x8180}, /* UNPK: the word of PACK */
+        {0x4900, 0x4100, 0x4900}, /* CHK.L D0,D4: the word of CHK.L D0,D0 */
+        {0x4980, 0x4180, 0x4980}, /* CHK.W D0,D4: the word of CHK.W D0,D0 */
+        {0x49D0, 0x41D0, 0x49D0}, /* LEA (A0),A4: the word of LEA (A0),A0 */
+        {0x7000, 0x7000, 0x7000}, /* MOVEQ #0,D0: nothing is mended */
+    };
+    for (size_t i = 0; i < sizeof AS / sizeof AS[0]; i++) {
+        const uint16_t op = AS[i].op;
+        expect(timing_060_class_word(op, MENDED) == timing_060_class_word(AS[i].word, CRATE), "a mended class word");
+        expect(same_masks(timing_060_masks_of(op, MENDED), timing_060_masks_of(AS[i].masks, CRATE)), "mended masks");
+    }
+    timing_060_masks m;
+    int same = 1;
+    for (uint32_t i = 0; i < 65536; i++) {
+        const uint16_t op = (uint16_t)i, word = timing_060_class_word(op, CRATE);
+        m = timing_060_masks_of(op, CRATE);
+        for (int j = 2; j < NUMBERS; j++)
+            same &= timing_060_class_word(op, NUMBER[j]) == word && same_masks(timing_060_masks_of(op, NUMBER[j]), m);
+    }
+    expect(same, "the opcodes in a profile of another number");
+    m = timing_060_masks_of(0x49D0, CRATE);
+    expect(timing_060_class_word(0x49D0, CRATE) == 0xC404, "the class word of 49D0");
+    expect(m.uses == 0x0100 && m.defs == 0x1000, "the masks of 49D0");
+    m = timing_060_masks_of(0xB308, MENDED);
+    expect(timing_060_class_word(0xB308, MENDED) == 0x4404, "the mended class word of B308");
+    expect(m.uses == 0x0300 && m.defs == 0x0300, "the mended masks of B308");
+}
+
 static int host(void) {
     static timing_060 t;
-    timing_060_fresh(&t);
+    timing_060_fresh(&t, CRATE);
     step_by_step(&t);
     runs(&t);
 
@@ -203,9 +296,7 @@ static int host(void) {
     expect(t.state[2] == 0 && t.tags[2] == 0x1004, "the slots after a clear of all");
     windows();
     flags(&t);
-
-    timing_060_masks m = timing_060_masks_of(0x49D0);
-    expect(timing_060_class_word(0x49D0) == 0xC404, "the class word of 49D0");
-    expect(m.uses == 0x0100 && m.defs == 0x1000, "the masks of 49D0");
+    profiles();
+    opcodes();
     return failures != 0;
 }

@@ -1,6 +1,6 @@
 /* The limits of traces and batches, with buffers that no Rattle program can hold, and canaries around what is lent to
- * be written; and NULL for a count of 0. Prints `limits hold`, or what differs; then its exit status is 1. Compiled as
- * example.c is. */
+ * be written; and NULL for a count of 0. All in either profile. Prints `limits hold`, or what differs; then its exit
+ * status is 1. Compiled as example.c is. */
 #include <timing_060.h>
 
 #include "system.h"
@@ -35,18 +35,18 @@ static int places_stay(size_t from, size_t to) {
     return 1;
 }
 
-static void traces(void) {
+static void traces(uint32_t profile) {
     timing_060_ran ran;
     /* breaks alone, at the limit and one byte over it */
     for (size_t i = 0; i < sizeof trace; i++) trace[i] = i % 4 == 2 ? 2 : 0;
     fill();
-    timing_060_fresh(&t);
+    timing_060_fresh(&t, profile);
     ran = timing_060_run_trace(&t, trace, TIMING_060_TRACE_BYTES, bytes + 16, 0);
     expect(is(ran, 0, 0, 0, 0), "16,777,216 bytes");
     ran = timing_060_run_trace(&t, trace, TIMING_060_TRACE_BYTES + 1, bytes + 16, 0);
     expect(is(ran, TIMING_060_REFUSED_OVERSIZED, 0, 0, 0), "16,777,217 bytes");
     expect(bytes_stay(0, 0), "lent bytes of runs without retirements");
-    /* retirements alone, as many as fit: MOVEQ into D0, which never pairs with itself */
+    /* retirements alone, as many as fit: MOVEQ into D0, which in no profile pairs with itself */
     static const uint8_t moveq[20] = {16, 0, 1, 0, 0x00, 0x70, 0x1E, 0, 0, 0x10, 0, 0, 2, 0x10, 0, 0, 4, 0, 0, 0};
     for (size_t i = 0; i < RUN; i++) trace[i] = moveq[i % 20];
     ran = timing_060_run_trace(&t, trace, RUN, bytes + 16, ROOM - 1);
@@ -57,12 +57,12 @@ static void traces(void) {
     expect(bytes_stay(16, 16 + ROOM), "the bytes around a trace's costs");
 }
 
-static void batches(void) {
+static void batches(uint32_t profile) {
     timing_060_ran ran;
     static const timing_060_record moveq = {0x7000, 0x1E, 0x1000, 0x1002, 4};
     for (size_t i = 0; i < RECORDS + 1; i++) records[i] = moveq;
     fill();
-    timing_060_fresh(&t);
+    timing_060_fresh(&t, profile);
     ran = timing_060_run_batch(&t, records, RECORDS + 1, places + 16, RECORDS + 1);
     expect(is(ran, TIMING_060_REFUSED_OVERSIZED, 0, 0, 0), "1,048,577 records");
     ran = timing_060_run_batch(&t, records, RECORDS, places + 16, RECORDS - 1);
@@ -94,9 +94,11 @@ static void nothing_lent(void) {
 }
 
 static int host(void) {
-    traces();
-    batches();
-    nothing_lent();
+    for (uint32_t profile = 0; profile < 2; profile++) {
+        traces(profile);
+        batches(profile);
+        nothing_lent();
+    }
     if (failures == 0) print("limits hold\n");
     return failures != 0;
 }

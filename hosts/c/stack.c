@@ -1,12 +1,12 @@
-/* The stack that the library needs: each function is called on a painted stack of its own, which then shows how deep it
- * was written. What the call itself takes and the memcpy and memset of system.h are counted in. Prints a line for each
- * function, its bytes and the most that docs/HOST.md says; where there are more, its exit status is 1. For x86-64;
- * compiled as example.c is. */
+/* The stack that the library needs: each function is called on a painted stack of its own, in both profiles where it
+ * takes one, and the stack then shows how deep it was written. What the call itself takes and the memcpy and memset of
+ * system.h are counted in. Prints a line for each function, its bytes and the most that docs/HOST.md says; where there
+ * are more, its exit status is 1. For x86-64; compiled as example.c is. */
 #include <timing_060.h>
 
 #include "system.h"
 
-enum { DEEP = 65536, PAINT = 0xA5, INSTRUCTIONS = 65536 };
+enum { DEEP = 65536, PAINT = 0xA5, INSTRUCTIONS = 65536, PROFILES = 2 };
 
 static uint8_t stack[DEEP] __attribute__((aligned(16)));
 static timing_060 t;
@@ -43,26 +43,31 @@ static void fill(void) {
     for (uint32_t i = 0; i < sizeof others; i++) trace[TIMING_060_RECORD_BYTES * INSTRUCTIONS + i] = others[i];
 }
 
-static void fresh(void) { timing_060_fresh(&t); }
+static void fresh(void) { timing_060_fresh(&t, TIMING_060_PROFILE_CRATE); }
 static void retire(void) {
-    for (uint32_t i = 0; i < INSTRUCTIONS; i++) given = timing_060_retire(&t, (uint16_t)i, 15, 2 * i, 0, 100);
+    for (t.profile = 0; t.profile < PROFILES; t.profile++)
+        for (uint32_t i = 0; i < INSTRUCTIONS; i++) given = timing_060_retire(&t, (uint16_t)i, 15, 2 * i, 0, 100);
 }
 static void break_pipeline(void) { timing_060_break(&t); }
 static void clear_all(void) { timing_060_clear_all(&t); }
 static void clear_user(void) { timing_060_clear_user(&t); }
 static void class_word(void) {
-    for (uint32_t i = 0; i < INSTRUCTIONS; i++) given = timing_060_class_word((uint16_t)i);
+    for (uint32_t i = 0; i < PROFILES * INSTRUCTIONS; i++) given = timing_060_class_word((uint16_t)i, i >> 16);
 }
 static void masks_of(void) {
-    for (uint32_t i = 0; i < INSTRUCTIONS; i++) given = timing_060_masks_of((uint16_t)i).uses;
+    for (uint32_t i = 0; i < PROFILES * INSTRUCTIONS; i++) given = timing_060_masks_of((uint16_t)i, i >> 16).uses;
 }
 static void run_trace(void) {
-    given = timing_060_run_trace(&t, trace, sizeof trace, bytes, sizeof bytes).count;
-    expect(given == INSTRUCTIONS, "the trace's count");
+    for (t.profile = 0; t.profile < PROFILES; t.profile++) {
+        given = timing_060_run_trace(&t, trace, sizeof trace, bytes, sizeof bytes).count;
+        expect(given == INSTRUCTIONS, "the trace's count");
+    }
 }
 static void run_batch(void) {
-    given = timing_060_run_batch(&t, records, INSTRUCTIONS, places, INSTRUCTIONS).count;
-    expect(given == INSTRUCTIONS, "the batch's count");
+    for (t.profile = 0; t.profile < PROFILES; t.profile++) {
+        given = timing_060_run_batch(&t, records, INSTRUCTIONS, places, INSTRUCTIONS).count;
+        expect(given == INSTRUCTIONS, "the batch's count");
+    }
 }
 static void image_write(void) { given = timing_060_image_write(&t, image, sizeof image).count; }
 static void image_read(void) { given = timing_060_image_read(&t, image, sizeof image).refusal; }

@@ -7,9 +7,9 @@
 #include <stddef.h>
 #include <stdint.h>
 
-#define TIMING_060_VERSION "0.2.0"
+#define TIMING_060_VERSION "0.3.0"
 #define TIMING_060_VERSION_MAJOR 0
-#define TIMING_060_VERSION_MINOR 2
+#define TIMING_060_VERSION_MINOR 3
 #define TIMING_060_VERSION_PATCH 0
 
 /* The limits. */
@@ -25,12 +25,19 @@
 extern "C" {
 #endif
 
-/* The state that a host keeps. All zeros is a fresh state. In the window anything but 0 is yes; of a shut window the
- * other four numbers are read, and by whatever is accepted left, as zeros. */
+/* The profiles, of which a host chooses one at the start. 1 is the mended one; any other number is the crate's. */
+enum {
+    TIMING_060_PROFILE_CRATE = 0, /* the clocks of m68k 0.15.1, pairs that the hardware cannot make included */
+    TIMING_060_PROFILE_MENDED = 1 /* seven kinds of instruction are mended: docs/HOST.md */
+};
+
+/* The state that a host keeps. All zeros is a fresh state of the crate's profile. In the window anything but 0 is yes;
+ * of a shut window the other four numbers are read, and by whatever is accepted left, as zeros. */
 typedef struct timing_060 {
     uint32_t tags[TIMING_060_SLOTS];
     uint8_t state[TIMING_060_SLOTS];
     uint16_t window[TIMING_060_WINDOW];
+    uint32_t profile; /* set by timing_060_fresh, and by no other function */
 } timing_060;
 
 /* The five numbers of the window. */
@@ -120,10 +127,11 @@ typedef struct timing_060_words_mut {
 #endif
 #define TIMING_060_SIZE(type, bytes) TIMING_060_HOLDS(size_of_##type, sizeof(type) == (bytes))
 #define TIMING_060_AT(type, field, place) TIMING_060_HOLDS(place_of_##type##_##field, offsetof(type, field) == (place))
-TIMING_060_SIZE(timing_060, 1292);
+TIMING_060_SIZE(timing_060, 1296);
 TIMING_060_AT(timing_060, tags, 0);
 TIMING_060_AT(timing_060, state, 1024);
 TIMING_060_AT(timing_060, window, 1280);
+TIMING_060_AT(timing_060, profile, 1292);
 TIMING_060_SIZE(timing_060_record, 16);
 TIMING_060_AT(timing_060_record, op, 0);
 TIMING_060_AT(timing_060_record, flags, 2);
@@ -159,8 +167,8 @@ TIMING_060_AT(timing_060_words_mut, count, 8);
 void timing_060_fresh_at(uint32_t *tags, uint8_t *state, uint16_t *window);
 
 /* Flag bits above the five are not looked at. */
-uint32_t timing_060_retire_at(uint32_t *tags, uint8_t *state, uint16_t *window, uint16_t op, uint16_t flags,
-                              uint32_t ppc, uint32_t pc, int32_t raw);
+uint32_t timing_060_retire_at(uint32_t *tags, uint8_t *state, uint16_t *window, uint32_t profile, uint16_t op,
+                              uint16_t flags, uint32_t ppc, uint32_t pc, int32_t raw);
 
 void timing_060_break_at(uint16_t *window);
 void timing_060_clear_all_at(uint8_t *state, uint16_t *window);
@@ -168,31 +176,34 @@ void timing_060_clear_user_at(uint8_t *state, uint16_t *window);
 
 /* A flag bit above the five is TIMING_060_REFUSED_FLAG. */
 timing_060_ran timing_060_run_trace_at(timing_060_bytes trace, timing_060_bytes_mut costs, uint32_t *tags,
-                                       uint8_t *state, uint16_t *window);
+                                       uint8_t *state, uint16_t *window, uint32_t profile);
 
 /* Four words a record; words beyond the last whole record are not read. Flag bits above the five are not looked at. */
 timing_060_ran timing_060_run_batch_at(timing_060_words records, timing_060_words_mut costs, uint32_t *tags,
-                                       uint8_t *state, uint16_t *window);
+                                       uint8_t *state, uint16_t *window, uint32_t profile);
 
 timing_060_ran timing_060_image_write_at(const uint32_t *tags, const uint8_t *state, const uint16_t *window,
                                          timing_060_bytes_mut image);
 timing_060_ran timing_060_image_read_at(timing_060_bytes image, uint32_t *tags, uint8_t *state, uint16_t *window);
 
-/* The class word of an opcode: class in bits 0 and 1, clocks in bits 2 to 6, then its flags, not those of a
- * retirement. */
-uint16_t timing_060_class_word(uint16_t op);
+/* The class word of an opcode in a profile: class in bits 0 and 1, clocks in bits 2 to 6, then its flags, not those of
+ * a retirement. */
+uint16_t timing_060_class_word(uint16_t op, uint32_t profile);
 
-/* The registers that an opcode uses and defines. */
-timing_060_masks timing_060_masks_of(uint16_t op);
+/* The registers that an opcode uses and defines in a profile. */
+timing_060_masks timing_060_masks_of(uint16_t op, uint32_t profile);
 
-/* A fresh state. */
-static inline void timing_060_fresh(timing_060 *t) { timing_060_fresh_at(t->tags, t->state, t->window); }
+/* A fresh state of a profile. */
+static inline void timing_060_fresh(timing_060 *t, uint32_t profile) {
+    timing_060_fresh_at(t->tags, t->state, t->window);
+    t->profile = profile;
+}
 
 /* One retired instruction: its clocks. `raw` is the handler's 68000 count. Flag bits above the five are not looked
  * at. */
 static inline uint32_t timing_060_retire(timing_060 *t, uint16_t op, uint16_t flags, uint32_t ppc, uint32_t pc,
                                          int32_t raw) {
-    return timing_060_retire_at(t->tags, t->state, t->window, op, flags, ppc, pc, raw);
+    return timing_060_retire_at(t->tags, t->state, t->window, t->profile, op, flags, ppc, pc, raw);
 }
 
 /* The pipeline breaks: the window is shut. */
@@ -208,7 +219,7 @@ static inline timing_060_ran timing_060_run_trace(timing_060 *t, const uint8_t *
                                                   uint64_t room) {
     timing_060_bytes s = {trace, bytes};
     timing_060_bytes_mut c = {costs, room};
-    return timing_060_run_trace_at(s, c, t->tags, t->state, t->window);
+    return timing_060_run_trace_at(s, c, t->tags, t->state, t->window, t->profile);
 }
 
 /* A batch of records into a place each. Flag bits above the five are not looked at. A count whose words do not fit 64
@@ -217,7 +228,7 @@ static inline timing_060_ran timing_060_run_batch(timing_060 *t, const timing_06
                                                   uint32_t *costs, uint64_t places) {
     timing_060_words s = {records, count > UINT64_MAX / 4 ? UINT64_MAX : count * 4};
     timing_060_words_mut c = {costs, places};
-    return timing_060_run_batch_at(s, c, t->tags, t->state, t->window);
+    return timing_060_run_batch_at(s, c, t->tags, t->state, t->window, t->profile);
 }
 
 /* The state's image, 1,288 bytes: `count` is how many were written. */
@@ -226,7 +237,8 @@ static inline timing_060_ran timing_060_image_write(const timing_060 *t, uint8_t
     return timing_060_image_write_at(t->tags, t->state, t->window, c);
 }
 
-/* The state of an image; a refused image gives a fresh state. */
+/* The state of an image; a refused image gives a fresh state. An image does not carry the profile: the one that `t` has
+ * stays, so a new `t` goes through timing_060_fresh first. */
 static inline timing_060_ran timing_060_image_read(timing_060 *t, const uint8_t *image, uint64_t bytes) {
     timing_060_bytes s = {image, bytes};
     return timing_060_image_read_at(s, t->tags, t->state, t->window);

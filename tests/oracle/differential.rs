@@ -1,7 +1,9 @@
 //! The port against the Rust module, case by case, through the program `cases`.
 //!
-//! A case is 8 bytes (what, dirty, room 2, image length 2, length 2), a state image or nothing, and bytes; the answer is a line:
-//! WHAT VERDICT NUMBER PLACE COUNT TOTAL LENT STATE. The lent bytes hold a pattern beforehand, so that a byte written or not shows.
+//! A case is 8 bytes (what, profile number and dirty, room 2, image length 2, length 2), a state image or nothing, and
+//! bytes; the answer is a line: WHAT VERDICT NUMBER PLACE COUNT TOTAL LENT STATE. The lent bytes hold a pattern
+//! beforehand, so that a byte written or not shows.
+use crate::core060::cpu::{CRATE, MENDED};
 use crate::core060::timing_060::Oep060Timing;
 use crate::format::*;
 use std::fmt::Write as _;
@@ -39,6 +41,8 @@ impl Random {
 #[derive(Clone)]
 pub struct Case {
     what: u8,
+    /// Of the profile, 0 to 127.
+    number: u8,
     dirty: bool,
     room: usize,
     image: Vec<u8>,
@@ -52,13 +56,13 @@ const BATCH: u8 = 4;
 const SLICE: u8 = 5;
 const BREAK: u8 = 6;
 
-// What a run gives: the verdict, the count and the total. The costs go into the lent bytes.
-fn ran(events: Result<Vec<Event>, Refused>, lent: &mut [u8], state: &mut Oep060Timing) -> String {
+// What a run by a profile gives: the verdict, the count and the total. The costs go into the lent bytes.
+fn ran(profile: u32, events: Result<Vec<Event>, Refused>, lent: &mut [u8], state: &mut Oep060Timing) -> String {
     let (mut count, mut total) = (0, 0u64);
     match events {
         Err((n, p)) => format!("refused {n} {p} 0 0"),
         Ok(events) => {
-            for cost in events.iter().filter_map(|e| step(state, e)) {
+            for cost in events.iter().filter_map(|e| step(profile, state, e)) {
                 lent[4 * count..4 * count + 4].copy_from_slice(&(cost as u32).to_le_bytes());
                 count += 1;
                 total += cost as u64;
@@ -71,7 +75,7 @@ fn ran(events: Result<Vec<Event>, Refused>, lent: &mut [u8], state: &mut Oep060T
 impl Case {
     fn encode(&self, out: &mut Vec<u8>) {
         out.push(self.what);
-        out.push(self.dirty as u8);
+        out.push(self.number << 1 | self.dirty as u8);
         out.extend((self.room as u16).to_le_bytes());
         out.extend((self.image.len() as u16).to_le_bytes());
         out.extend((self.bytes.len() as u16).to_le_bytes());
@@ -83,26 +87,52 @@ impl Case {
         self.what == BATCH || self.what == SLICE
     }
 
-    // What the port must answer. A dirty start is a shut window with its other fields set: to the Rust it is no head.
-    fn expected(&self) -> String {
-        let bytes = if self.batch() { 4 * self.room } else { self.room };
-        let mut lent: Vec<u8> = (0..bytes).map(|i| (i * 7 + 3) as u8).collect();
-        let mut state = if self.image.is_empty() { Oep060Timing::default() } else { read_image(&self.image).unwrap_or_default() };
+    // The profile that the number means, as a host passes it.
+    fn profile(&self) -> u32 {
+        self.number.into()
+    }
+
+    // What a run reads; nothing where it is no run.
+    fn events(&self) -> Result<Vec<Event>, Refused> {
+        match self.what {
+            TRACE => read_trace(&self.bytes, self.room),
+            BATCH | SLICE => read_batch(&self.bytes, self.room),
+            _ => Ok(Vec::new()),
+        }
+    }
+
+    // The state that it starts from. A dirty one is a shut window with its other fields set: to the Rust it is no head.
+    fn start(&self) -> Oep060Timing {
+        let mut state = read_image(&self.image).unwrap_or_default();
         if self.dirty {
             state.pending_head = None;
         }
+        state
+    }
+
+    // The costs of a run by a profile; none of one that is refused.
+    fn costs(&self, profile: u32) -> Vec<i32> {
+        let mut state = self.start();
+        self.events().unwrap_or_default().iter().filter_map(|e| step(profile, &mut state, e)).collect()
+    }
+
+    // What the port must answer.
+    fn expected(&self) -> String {
+        let bytes = if self.batch() { 4 * self.room } else { self.room };
+        let mut lent: Vec<u8> = (0..bytes).map(|i| (i * 7 + 3) as u8).collect();
+        let mut state = self.start();
         match self.what {
             TRACE | BATCH | SLICE => {
-                let (what, events) = match self.what {
-                    TRACE => ("trace", read_trace(&self.bytes, self.room)),
-                    BATCH => ("batch", read_batch(&self.bytes, self.room)),
-                    _ => ("slice", read_batch(&self.bytes, self.room)),
+                let what = match self.what {
+                    TRACE => "trace",
+                    BATCH => "batch",
+                    _ => "slice",
                 };
-                let gave = ran(events, &mut lent, &mut state);
+                let gave = ran(self.profile(), self.events(), &mut lent, &mut state);
                 format!("{what} {gave} {} {}", hex(&lent), shown(&state))
             }
             BREAK => {
-                step(&mut state, &Event::Break);
+                step(self.profile(), &mut state, &Event::Break);
                 format!("break accepted 0 0 0 0 - {}", shown(&state))
             }
             READ => match read_image(&self.bytes) {
@@ -138,13 +168,78 @@ fn shown(state: &Oep060Timing) -> String {
 
 // ---- generators
 
-fn opcode(rng: &mut Random) -> u16 {
+// The number of a profile: mostly the crate's or the mended one's, and now and then another, which means the crate's.
+fn any_number(rng: &mut Random) -> u8 {
+    match rng.below(16) {
+        0..=6 => 0,
+        7..=14 => 1,
+        _ => 2 + rng.below(126) as u8,
+    }
+}
+
+// The rows of the mended profile, and one that is beside them.
+const ROWS: u64 = 8;
+
+// An opcode of a row, or one near it.
+fn row_opcode(rng: &mut Random, row: u64) -> u16 {
+    let (x, size, y) = ((rng.below(8) << 9) as u16, (rng.below(4) << 6) as u16, rng.below(8) as u16);
+    let operand = rng.below(0x40) as u16;
+    match row {
+        0 => 0xB100 | x | size | y,                                                   // EOR, and CMPA
+        1 => 0x49C0 | y,                                                              // EXTB.L
+        2 => 0xB108 | x | size | y,                                                   // CMPM, and CMPA
+        3 => 0x0E00 | size | operand,                                                 // MOVES, and CAS
+        4 => rng.pick(&[0x8180, 0x8180, 0x8140, 0x8100, 0x8190]) | x | operand & 15,  // UNPK, PACK, SBCD, OR
+        5 => rng.pick(&[0x4900, 0x4980, 0x4940]) | operand,                           // CHK on D4, and between
+        6 => 0x49C0 | operand,                                                        // LEA into A4, and EXTB.L
+        _ => 0x4100 | x | size | operand,                                             // CHK and LEA on any register
+    }
+}
+
+// What may join and be joined, and touches a register that the opcode names, or register 4.
+fn partner(rng: &mut Random, op: u16) -> u16 {
+    let (r, other) = (rng.pick(&[op & 7, op >> 9 & 7, 4]), (rng.below(8) << 9) as u16);
+    rng.pick(&[
+        0x3000 | other | r,       // MOVE.W Dr,Dn
+        0x3008 | other | r,       // MOVE.W Ar,Dn
+        0x3010 | other | r,       // MOVE.W (Ar),Dn
+        0x3040 | r << 9 | op & 7, // MOVEA.W Dn,Ar
+        0x5240 | r,               // ADDQ.W #1,Dr
+        0x5248 | r,               // ADDQ.W #1,Ar
+        0x7000 | r << 9,          // MOVEQ #0,Dr
+        0x56C0 | r,               // SNE Dr, which uses the CCR late
+    ])
+}
+
+// An opcode of a row and its partner, one behind the other, often with NOP before them, which shuts the window.
+fn pair(rng: &mut Random, events: &mut Vec<Event>, row: u64) {
+    let op = row_opcode(rng, row);
+    let partner = partner(rng, op);
+    let mut all = if rng.one_in(3) { vec![partner, op] } else { vec![op, partner] };
+    if rng.one_in(2) {
+        all.insert(0, 0x4E71);
+    }
+    let mut ppc = 0x1000 + 2 * rng.below(0x400) as u32;
+    for op in all {
+        let flags = if rng.one_in(16) { rng.below(32) as u16 } else { 0x1E };
+        events.push(Event::Retired(Retirement { op, flags, ppc, pc: ppc + 2, raw: raw(rng) }));
+        ppc += 2;
+    }
+}
+
+fn opcode(rng: &mut Random, number: u8) -> u16 {
+    if number != 0 && rng.one_in(2) {
+        let row = rng.below(ROWS);
+        return row_opcode(rng, row);
+    }
     match rng.below(8) {
         0 => rng.pick(&[0x60FE, 0x6000, 0x6100, 0x66F0, 0x51C8, 0x57C9, 0x4E75, 0x4EB9]),
         1 => 0x7000 | (rng.below(8) << 9) as u16 | rng.below(256) as u16,
         2 => 0x6000 | rng.below(0x1000) as u16,
         3 => 0x5000 | rng.below(0x1000) as u16,
-        4 => rng.pick(&[0x2040, 0x2030, 0x41D0, 0x49D0, 0x49C0, 0xB141, 0xD1C0, 0xE0F0, 0x0E10, 0xD081, 0x1018, 0x3140]),
+        4 => rng.pick(&[
+            0x2040, 0x2030, 0x41D0, 0x49D0, 0x49C0, 0xB141, 0xD1C0, 0xE0F0, 0x0E10, 0xD081, 0x1018, 0x3140,
+        ]),
         _ => rng.next() as u16,
     }
 }
@@ -157,7 +252,7 @@ fn raw(rng: &mut Random) -> i32 {
     }
 }
 
-fn random_retirement(rng: &mut Random, style: u64) -> Retirement {
+fn random_retirement(rng: &mut Random, number: u8, style: u64) -> Retirement {
     let ppc = match style {
         // all of the address space
         0 => rng.next() as u32,
@@ -169,14 +264,14 @@ fn random_retirement(rng: &mut Random, style: u64) -> Retirement {
         _ => 0xFFFF_FFF0u32.wrapping_add(2 * rng.below(12) as u32),
     };
     let pc = if rng.one_in(3) { rng.next() as u32 } else { ppc.wrapping_add(2 * rng.below(4) as u32) };
-    let flags = if rng.one_in(4) { rng.below(32) as u16 } else { 0x0E | rng.below(2) as u16 | (rng.below(2) << 4) as u16 };
-    Retirement { op: opcode(rng), flags, ppc, pc, raw: raw(rng) }
+    let flags = if rng.one_in(4) { rng.below(32) } else { 0x0E | rng.below(2) | rng.below(2) << 4 };
+    Retirement { op: opcode(rng, number), flags: flags as u16, ppc, pc, raw: raw(rng) }
 }
 
 // A loop as programs have them: a body of plain instructions and a branch back that is taken but for the last time.
-fn realistic(rng: &mut Random, events: &mut Vec<Event>, turns: u64) {
+fn realistic(rng: &mut Random, number: u8, events: &mut Vec<Event>, turns: u64) {
     let start = 0x4000 + 2 * rng.below(0x400) as u32;
-    let body: Vec<u16> = (0..1 + rng.below(6)).map(|_| opcode(rng)).collect();
+    let body: Vec<u16> = (0..1 + rng.below(6)).map(|_| opcode(rng, number)).collect();
     let end = if rng.one_in(2) { 0x51C8 } else { 0x66F0 };
     for turn in 0..turns {
         let mut ppc = start;
@@ -191,7 +286,7 @@ fn realistic(rng: &mut Random, events: &mut Vec<Event>, turns: u64) {
     }
 }
 
-fn events(rng: &mut Random, size: u64) -> Vec<Event> {
+fn events(rng: &mut Random, number: u8, size: u64) -> Vec<Event> {
     let mut events = Vec::new();
     let style = rng.below(4);
     while (events.len() as u64) < size {
@@ -201,9 +296,13 @@ fn events(rng: &mut Random, size: u64) -> Vec<Event> {
             2 | 3 => events.push(Event::ClearUser),
             4 => {
                 let turns = 1 + rng.below(9);
-                realistic(rng, &mut events, turns)
+                realistic(rng, number, &mut events, turns)
             }
-            _ => events.push(Event::Retired(random_retirement(rng, style))),
+            _ if number != 0 && rng.one_in(2) => {
+                let row = rng.below(ROWS);
+                pair(rng, &mut events, row)
+            }
+            _ => events.push(Event::Retired(random_retirement(rng, number, style))),
         }
     }
     events
@@ -255,25 +354,28 @@ fn retirements(events: &[Event]) -> usize {
     events.iter().filter(|e| matches!(e, Event::Retired(_))).count()
 }
 
-fn trace_case(rng: &mut Random, events: &[Event]) -> Case {
+fn trace_case(rng: &mut Random, number: u8, size: u64) -> Case {
+    let events = events(rng, number, size);
     let bytes: Vec<u8> = events.iter().flat_map(record).collect();
-    let needed = 4 * retirements(events);
-    let room = if rng.one_in(20) { needed.saturating_sub(1 + rng.below(4) as usize) } else { needed + rng.below(9) as usize };
+    let needed = 4 * retirements(&events);
+    let short = rng.one_in(20);
+    let room = if short { needed.saturating_sub(1 + rng.below(4) as usize) } else { needed + rng.below(9) as usize };
     let image = if rng.one_in(2) { image(rng) } else { Vec::new() };
-    Case { what: TRACE, dirty: rng.one_in(8), room, image, bytes }
+    Case { what: TRACE, number, dirty: rng.one_in(8), room, image, bytes }
 }
 
-pub fn cases(rng: &mut Random, scale: u64) -> Vec<Case> {
+/// Gives the number of a case's profile.
+type Numbers = fn(&mut Random) -> u8;
+
+pub fn cases(rng: &mut Random, scale: u64, numbers: Numbers) -> Vec<Case> {
     let mut all = Vec::new();
     for _ in 0..25 * scale {
-        let size = rng.pick(&[0, 1, 2, 3, 40, 500, 1000]);
-        let events = events(rng, size);
-        all.push(trace_case(rng, &events));
+        let (number, size) = (numbers(rng), rng.pick(&[0, 1, 2, 3, 40, 500, 1000]));
+        all.push(trace_case(rng, number, size));
     }
     for _ in 0..100 * scale {
-        let size = rng.below(7);
-        let events = events(rng, size);
-        let mut case = trace_case(rng, &events);
+        let (number, size) = (numbers(rng), rng.below(7));
+        let mut case = trace_case(rng, number, size);
         damage(rng, &mut case.bytes);
         case.image.clear();
         all.push(case);
@@ -286,17 +388,17 @@ pub fn cases(rng: &mut Random, scale: u64) -> Vec<Case> {
         } else if rng.one_in(2) {
             damage(rng, &mut bytes);
         }
-        all.push(Case { what: READ, dirty: false, room: 0, image: Vec::new(), bytes });
+        all.push(Case { what: READ, number: numbers(rng), dirty: false, room: 0, image: Vec::new(), bytes });
     }
     for _ in 0..3 * scale {
-        let room = rng.pick(&[0, 1, 1287, 1288, 1289, 1300]);
-        all.push(Case { what: WRITE, dirty: rng.one_in(3), room, image: image(rng), bytes: Vec::new() });
+        let (number, room) = (numbers(rng), rng.pick(&[0, 1, 1287, 1288, 1289, 1300]));
+        all.push(Case { what: WRITE, number, dirty: rng.one_in(3), room, image: image(rng), bytes: Vec::new() });
     }
     all
 }
 
 // The retirements among events, as a batch: mostly with just enough room, one short, or more.
-fn batch_case(rng: &mut Random, events: &[Event]) -> Case {
+fn batch_case(rng: &mut Random, number: u8, events: &[Event]) -> Case {
     let mut bytes = Vec::new();
     for e in events {
         if let Event::Retired(r) = e {
@@ -316,34 +418,36 @@ fn batch_case(rng: &mut Random, events: &[Event]) -> Case {
         _ => needed + rng.below(9) as usize,
     };
     let image = if rng.one_in(2) { image(rng) } else { Vec::new() };
-    Case { what, dirty: rng.one_in(4), room, image, bytes }
+    Case { what, number, dirty: rng.one_in(4), room, image, bytes }
 }
 
-pub fn batches(rng: &mut Random, scale: u64) -> Vec<Case> {
+pub fn batches(rng: &mut Random, scale: u64, numbers: Numbers) -> Vec<Case> {
     let mut all = Vec::new();
     for _ in 0..25 * scale {
-        let size = rng.pick(&[0, 1, 2, 3, 4, 5, 40, 400]);
-        let events = events(rng, size);
-        all.push(batch_case(rng, &events));
+        let (number, size) = (numbers(rng), rng.pick(&[0, 1, 2, 3, 4, 5, 40, 400]));
+        let events = events(rng, number, size);
+        all.push(batch_case(rng, number, &events));
     }
     for _ in 0..25 * scale {
-        let style = rng.below(4);
-        let events: Vec<Event> = (0..4).map(|_| Event::Retired(random_retirement(rng, style))).collect();
-        all.push(batch_case(rng, &events));
+        let (number, style) = (numbers(rng), rng.below(4));
+        let events: Vec<Event> = (0..4).map(|_| Event::Retired(random_retirement(rng, number, style))).collect();
+        all.push(batch_case(rng, number, &events));
     }
     // all loops, and all that the bytes of a case hold
     for _ in 0..scale.div_ceil(4) {
+        let number = numbers(rng);
         let mut events = Vec::new();
         while events.len() < 4095 {
             let turns = 1 + rng.below(40);
-            realistic(rng, &mut events, turns);
+            realistic(rng, number, &mut events, turns);
         }
         events.truncate(rng.pick(&[1000, 4094, 4095]));
-        all.push(batch_case(rng, &events));
+        all.push(batch_case(rng, number, &events));
     }
     for _ in 0..3 * scale {
+        let number = numbers(rng);
         let image = if rng.one_in(8) { Vec::new() } else { image_with(rng, 1) };
-        all.push(Case { what: BREAK, dirty: rng.one_in(4), room: 0, image, bytes: Vec::new() });
+        all.push(Case { what: BREAK, number, dirty: rng.one_in(4), room: 0, image, bytes: Vec::new() });
     }
     all
 }
@@ -369,16 +473,23 @@ fn image_with(rng: &mut Random, open: u8) -> Vec<u8> {
     }
 }
 
-// Batches and breaks at their limits: no record, room that is one short, just enough and more, from every kind of window.
+// Batches and breaks at their limits: no record, room that is one short, just enough and more, from every kind of
+// window.
 fn batch_limits() -> Vec<Case> {
     let mut all = Vec::new();
     let good: Vec<u8> = worked().iter().flat_map(|e| record(e)[4..].to_vec()).collect();
     let mut rng = Random::new(2);
     let (open, shut) = (image_with(&mut rng, 1), image_with(&mut rng, 0));
-    let starts = [(false, Vec::new()), (false, open.clone()), (false, shut.clone()), (true, open), (true, shut), (true, Vec::new())];
-    for (dirty, image) in starts {
-        let case = |what, room, bytes: &[u8]| Case { what, dirty, room, image: image.clone(), bytes: bytes.to_vec() };
-        all.extend([case(BATCH, 0, &[]), case(BATCH, 5, &[]), case(BATCH, 0, &good[..15]), case(BATCH, 0, &good[..16]), case(BATCH, 1, &good[..31])]);
+    let clean = [Vec::new(), open.clone(), shut.clone()].map(|image| (false, image));
+    let dirty = [open, shut, Vec::new()].map(|image| (true, image));
+    for (dirty, image) in clean.into_iter().chain(dirty) {
+        let case = |what, room, bytes: &[u8]| {
+            let (image, bytes) = (image.clone(), bytes.to_vec());
+            Case { what, number: 0, dirty, room, image, bytes }
+        };
+        for (room, bytes) in [(0, 0), (5, 0), (0, 15), (0, 16), (1, 31)] {
+            all.push(case(BATCH, room, &good[..bytes]));
+        }
         for room in [0, 3, 4, 5] {
             all.extend([case(BATCH, room, &good), case(SLICE, room, &good)]);
         }
@@ -397,8 +508,9 @@ fn limits() -> Vec<Case> {
     let mut events = worked().to_vec();
     events.extend([Event::Break, Event::ClearAll, Event::ClearUser]);
     let good: Vec<u8> = events.iter().flat_map(record).collect();
-    let trace = |bytes: Vec<u8>, room| Case { what: TRACE, dirty: false, room, image: Vec::new(), bytes };
-    let mut all = vec![trace(Vec::new(), 0), trace(Vec::new(), 5), trace(good.clone(), 16), trace(good.clone(), 20), trace(good.clone(), 15), trace(good.clone(), 0)];
+    let trace = |bytes, room| Case { what: TRACE, number: 0, dirty: false, room, image: Vec::new(), bytes };
+    let mut all = vec![trace(Vec::new(), 0), trace(Vec::new(), 5)];
+    all.extend([16, 20, 15, 0].map(|room| trace(good.clone(), room)));
     let mut changed = |change: &dyn Fn(&mut Vec<u8>)| {
         let mut bytes = good.clone();
         change(&mut bytes);
@@ -420,21 +532,75 @@ fn limits() -> Vec<Case> {
     }
     let mut rng = Random::new(1);
     let (open, shut) = (image_with(&mut rng, 1), image_with(&mut rng, 0));
-    let read = |bytes: Vec<u8>| Case { what: READ, dirty: false, room: 0, image: Vec::new(), bytes };
-    all.extend([read(open.clone()), read(shut.clone()), read(Vec::new()), read(open[..1287].to_vec()), read([&open[..], &[0]].concat())]);
-    for (base, at, byte) in [(&open, 0, 5), (&open, 1, 6), (&open, 2, 17), (&open, 3, 1), (&open, 1284, 2), (&open, 1284, 255), (&open, 1287, 8), (&open, 1287, 7), (&shut, 1285, 1), (&shut, 1286, 1), (&shut, 1287, 1), (&shut, 1287, 8)] {
-        let mut s = base.clone();
-        s[at] = byte;
-        all.push(read(s));
+    let read = |bytes: &[u8]| {
+        let (image, bytes) = (Vec::new(), bytes.to_vec());
+        Case { what: READ, number: 0, dirty: false, room: 0, image, bytes }
+    };
+    all.extend([read(&open), read(&shut), read(&[]), read(&open[..1287]), read(&[&open[..], &[0]].concat())]);
+    let of_open = [(0, 5), (1, 6), (2, 17), (3, 1), (1284, 2), (1284, 255), (1287, 8), (1287, 7)];
+    let of_shut = [(1285, 1), (1286, 1), (1287, 1), (1287, 8)];
+    for (base, changes) in [(&open, &of_open[..]), (&shut, &of_shut)] {
+        for &(at, byte) in changes {
+            let mut s = base.clone();
+            s[at] = byte;
+            all.push(read(&s));
+        }
     }
     for room in [0, 1287, 1288, 1289] {
         for dirty in [false, true] {
-            all.push(Case { what: WRITE, dirty, room, image: open.clone(), bytes: Vec::new() });
+            all.push(Case { what: WRITE, number: 0, dirty, room, image: open.clone(), bytes: Vec::new() });
         }
     }
-    all.push(Case { what: TRACE, dirty: true, room: 16, image: open.clone(), bytes: good.clone() });
-    all.push(Case { what: TRACE, dirty: true, room: 3, image: shut.clone(), bytes: good.clone() });
-    all.push(Case { what: TRACE, dirty: true, room: 0, image: shut, bytes: Vec::new() });
+    for (room, image, bytes) in [(16, open, &good[..]), (3, shut.clone(), &good), (0, shut, &[])] {
+        all.push(Case { what: TRACE, number: 0, dirty: true, room, image, bytes: bytes.to_vec() });
+    }
+    all
+}
+
+// Of each row heads and followers to which the crate's profile and the mended one give other clocks.
+const MENDED_PAIRS: [(u16, u16); 21] = [
+    (0xB141, 0x3401), // EOR.W D0,D1, then MOVE.W D1,D2: the crate pairs them
+    (0xBF87, 0x7E00), // EOR.L D7,D7, then MOVEQ #0,D7
+    (0x49C0, 0x2400), // EXTB.L D0, then MOVE.L D0,D2
+    (0x49C7, 0x204C), // EXTB.L D7, then MOVEA.L A4,A0: the crate keeps them apart
+    (0x2840, 0x49C1), // MOVEA.L D0,A4, then EXTB.L D1
+    (0xB308, 0x2449), // CMPM.B (A0)+,(A1)+, then MOVEA.L A1,A2
+    (0xB308, 0x5288), // the same, then ADDQ.L #1,A0
+    (0x7200, 0xB308), // MOVEQ #0,D1, then CMPM.B (A0)+,(A1)+
+    (0x3412, 0xBF8F), // MOVE.W (A2),D2, then CMPM.L (A7)+,(A7)+
+    (0x0E10, 0x7000), // MOVES.B (A0), then MOVEQ #0,D0
+    (0x3080, 0x0E80), // MOVE.W D0,(A0), then the bits of MOVES.L on D0, which there is not
+    (0x0EBF, 0x31FC), // the last of MOVES, then MOVE.W #,(xxx).W
+    (0x8180, 0x7000), // UNPK D0,D0, then MOVEQ #0,D0
+    (0x3080, 0x8F8F), // MOVE.W D0,(A0), then UNPK -(A7),-(A7)
+    (0x4900, 0x31FC), // CHK.L D0,D4, then MOVE.W #,(xxx).W
+    (0x3080, 0x493C), // MOVE.W D0,(A0), then CHK.L #,D4
+    (0x49BF, 0x31FC), // the last of CHK.W on D4, then MOVE.W #,(xxx).W
+    (0x49D0, 0x3411), // LEA (A0),A4, then MOVE.W (A1),D2
+    (0x49C8, 0x56C1), // the first of LEA into A4, then SNE D1
+    (0x3411, 0x49F8), // MOVE.W (A1),D2, then LEA (xxx).W,A4
+    (0x49FF, 0x3411), // the last of LEA into A4, then MOVE.W (A1),D2
+];
+
+// These pairs, NOP before each, which shuts the window, as a trace, a batch and a batch of structs: by the crate's
+// number, by the mended profile's, and by numbers of no profile.
+fn profiles() -> Vec<Case> {
+    let mut events = Vec::new();
+    for (head, follower) in MENDED_PAIRS {
+        for op in [0x4E71, head, follower] {
+            let ppc = 0x1000 + 2 * events.len() as u32;
+            events.push(Event::Retired(Retirement { op, flags: 0x1E, ppc, pc: ppc + 2, raw: 24 }));
+        }
+    }
+    let mut all = Vec::new();
+    for (number, dirty) in [(0, false), (1, false), (1, true), (2, false), (127, true)] {
+        let case = |what, room, from: usize| {
+            let bytes = events.iter().flat_map(|e| record(e)[from..].to_vec()).collect();
+            Case { what, number, dirty, room, image: Vec::new(), bytes }
+        };
+        let needed = events.len();
+        all.extend([case(TRACE, 4 * needed, 0), case(BATCH, needed, 4), case(SLICE, needed, 4)]);
+    }
     all
 }
 
@@ -442,19 +608,20 @@ fn limits() -> Vec<Case> {
 pub fn random_trace(seed: u64) -> Vec<u8> {
     let mut rng = Random::new(seed + 1);
     let size = rng.pick(&[1, 5, 40, 400, 3000]);
-    let mut bytes: Vec<u8> = events(&mut rng, size).iter().flat_map(record).collect();
+    let mut bytes: Vec<u8> = events(&mut rng, 0, size).iter().flat_map(record).collect();
     if rng.one_in(2) {
         damage(&mut rng, &mut bytes);
     }
     bytes
 }
 
-/// The cases that the gate replays: traces and images, and then batches and breaks.
+/// The cases that the gate replays: traces and images, then batches and breaks, and at last those of other numbers.
 pub fn sample() -> Vec<Case> {
     let mut all = limits();
-    all.extend(cases(&mut Random::new(68060), 1));
+    all.extend(cases(&mut Random::new(68060), 1, |_| 0));
     all.extend(batch_limits());
-    all.extend(batches(&mut Random::new(68060), 1));
+    all.extend(batches(&mut Random::new(68060), 1, |_| 0));
+    all.extend(profiles());
     all
 }
 
@@ -505,13 +672,14 @@ fn differs(runner: &[String], case: &Case) -> Option<String> {
     }
 }
 
-// The smallest case that still differs: runs of bytes that are not needed are taken out, the longest first; of a batch, whole records.
+// The smallest case that still differs: runs of bytes that are not needed are taken out, the longest first; of a batch,
+// whole records.
 fn shrunk(runner: &[String], case: &Case) -> Case {
     let mut best = case.clone();
-    if best.image.len() == IMAGE {
-        let fresh = Case { image: Vec::new(), ..best.clone() };
-        if differs(runner, &fresh).is_some() {
-            best = fresh;
+    for simpler in [|c| Case { number: 0, ..c }, |c| Case { image: Vec::new(), ..c }] {
+        let less: Case = simpler(best.clone());
+        if differs(runner, &less).is_some() {
+            best = less;
         }
     }
     let unit = if best.what == BATCH || best.what == SLICE { 16 } else { 4 };
@@ -532,17 +700,39 @@ fn shrunk(runner: &[String], case: &Case) -> Case {
     best
 }
 
+// What there is to run: how many cases, and how many retirements of those that are accepted.
+fn say_how_many(first: &[Case], second: &[Case]) {
+    let count = |all: &[Case], what| all.iter().filter(|c| c.what == what).count();
+    let retired = |all: &[Case]| -> usize { all.iter().map(|c| c.costs(CRATE).len()).sum() };
+    let (traces, read, written) = (count(first, TRACE), count(first, READ), count(first, WRITE));
+    println!("{traces} traces with {} retirements, {read} images read, {written} images written", retired(first));
+    let (words, structs, breaks) = (count(second, BATCH), count(second, SLICE), count(second, BREAK));
+    println!("{words} batches and {structs} batches of structs with {} retirements, {breaks} breaks", retired(second));
+    let (mut by_mended, mut by_none, mut costs, mut others) = (0, 0, 0, 0);
+    for case in first.iter().chain(second) {
+        match case.profile() {
+            CRATE => {}
+            MENDED => {
+                let (of_crate, mended) = (case.costs(CRATE), case.costs(MENDED));
+                by_mended += 1;
+                costs += mended.len();
+                others += of_crate.iter().zip(mended).filter(|(a, b)| *a != b).count();
+            }
+            _ => by_none += 1,
+        }
+    }
+    println!("of these {by_mended} by the mended profile: {costs} retirements, {others} not at the crate's clocks");
+    println!("and {by_none} by a number of no profile, which means the crate's");
+}
+
 pub fn run(runner: &[String], seed: u64, scale: u64) -> Result<(usize, usize), String> {
     let mut rng = Random::new(seed);
     let mut first = limits();
-    first.extend(cases(&mut rng, scale));
+    first.extend(cases(&mut rng, scale, any_number));
     let mut second = batch_limits();
-    second.extend(batches(&mut rng, scale));
-    let count = |all: &[Case], w: u8| all.iter().filter(|c| c.what == w).count();
-    let retired: usize = first.iter().filter(|c| c.what == TRACE).map(|c| read_trace(&c.bytes, c.room).map_or(0, |e| retirements(&e))).sum();
-    println!("{} traces with {retired} retirements, {} images read, {} images written", count(&first, TRACE), count(&first, READ), count(&first, WRITE));
-    let retired: usize = second.iter().filter(|c| c.batch()).map(|c| read_batch(&c.bytes, c.room).map_or(0, |e| e.len())).sum();
-    println!("{} batches and {} batches of structs with {retired} retirements, {} breaks", count(&second, BATCH), count(&second, SLICE), count(&second, BREAK));
+    second.extend(batches(&mut rng, scale, any_number));
+    second.extend(profiles());
+    say_how_many(&first, &second);
     let (mut passed, mut failed) = (0, 0);
     let mut said = Instant::now();
     for some in first.chunks(2000).chain(second.chunks(2000)) {

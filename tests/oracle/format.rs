@@ -1,4 +1,5 @@
-//! Records, traces and images, read and written from document 01 alone: the independent reader that the port is held against.
+//! Records, traces and images, read and written from document 01 alone: the independent reader that the port is held
+//! against.
 use crate::core060::cpu::{CACR_060_EBC, CpuCore, PCR_ESS};
 use crate::core060::timing_060::{BranchCache060, Oep060Timing, PendingHead060};
 
@@ -106,7 +107,8 @@ pub fn read_trace(s: &[u8], room: usize) -> Result<Vec<Event>, Refused> {
     Ok(events)
 }
 
-/// The retirements of a batch, 16 bytes each, or its refusal: 1, then 7. Bytes beyond the last whole record are none of it.
+/// The retirements of a batch, 16 bytes each, or its refusal: 1, then 7. Bytes beyond the last whole record are none of
+/// it.
 pub fn read_batch(s: &[u8], room: usize) -> Result<Vec<Event>, Refused> {
     let events: Vec<Event> = s.chunks_exact(16).map(|p| Event::Retired(retirement(p))).collect();
     if events.len() > 1_048_576 {
@@ -160,8 +162,8 @@ pub fn read_image(s: &[u8]) -> Result<Oep060Timing, Refused> {
     })
 }
 
-/// One event on the Rust module itself: the cost of a retirement.
-pub fn step(t: &mut Oep060Timing, e: &Event) -> Option<i32> {
+/// One event on the Rust module itself, by the profile of a number: the cost of a retirement.
+pub fn step(profile: u32, t: &mut Oep060Timing, e: &Event) -> Option<i32> {
     match e {
         Event::Retired(r) => {
             let mut cpu = CpuCore {
@@ -174,7 +176,7 @@ pub fn step(t: &mut Oep060Timing, e: &Event) -> Option<i32> {
                 supervisor: r.flags & 16 != 0,
                 oep060: std::mem::take(t),
             };
-            let cost = cpu.cycles_060(r.raw, r.flags & 2 != 0);
+            let cost = cpu.cycles_by(profile, r.raw, r.flags & 2 != 0);
             *t = cpu.oep060;
             Some(cost)
         }

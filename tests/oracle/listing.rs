@@ -1,5 +1,6 @@
 //! What the cost lister, `replay` and `show_trace` must print, from the independent reader and the Rust module; and the
 //! examples.
+use crate::core060::cpu::{CRATE, MENDED};
 use crate::core060::timing_060::Oep060Timing;
 use crate::format::*;
 use std::fmt::Write as _;
@@ -13,8 +14,8 @@ fn short(trace: &[u8]) -> Result<Vec<Event>, String> {
     read.map_err(|(n, p)| format!("refused {n} at {p}\n"))
 }
 
-// The lister's lines, and the next state.
-fn listing(trace: &[u8], mut state: Oep060Timing) -> (String, Option<Oep060Timing>) {
+// The lister's lines by a profile, and the next state.
+fn listing(profile: u32, trace: &[u8], mut state: Oep060Timing) -> (String, Option<Oep060Timing>) {
     let events = match short(trace) {
         Ok(events) => events,
         Err(line) => return (line, None),
@@ -22,7 +23,7 @@ fn listing(trace: &[u8], mut state: Oep060Timing) -> (String, Option<Oep060Timin
     let mut text = "index opcode clocks\n".to_string();
     let (mut count, mut total) = (0u64, 0u64);
     for e in &events {
-        if let (Some(cost), Event::Retired(r)) = (step(&mut state, e), e) {
+        if let (Some(cost), Event::Retired(r)) = (step(profile, &mut state, e), e) {
             writeln!(text, "{count} {:04X} {cost}", r.op).unwrap();
             count += 1;
             total += cost as u64;
@@ -32,21 +33,21 @@ fn listing(trace: &[u8], mut state: Oep060Timing) -> (String, Option<Oep060Timin
     (text, Some(state))
 }
 
-pub fn cost_lister(input: &[u8]) -> String {
-    listing(input, Oep060Timing::default()).0
+pub fn cost_lister(profile: u32, input: &[u8]) -> String {
+    listing(profile, input, Oep060Timing::default()).0
 }
 
 pub fn lister_limit() -> String {
     let breaks: Vec<u8> = (0..=LISTED).map(|i| if i % 4 == 2 { 2 } else { 0 }).collect();
-    cost_lister(&breaks[..LISTED]) + &cost_lister(&breaks)
+    cost_lister(CRATE, &breaks[..LISTED]) + &cost_lister(CRATE, &breaks)
 }
 
-pub fn replay(input: &[u8]) -> String {
+pub fn replay(profile: u32, input: &[u8]) -> String {
     let state = match read_image(&input[..input.len().min(IMAGE)]) {
         Ok(state) => state,
         Err((n, p)) => return format!("image refused {n} at {p}\n"),
     };
-    let (mut text, next) = listing(&input[IMAGE..], state);
+    let (mut text, next) = listing(profile, &input[IMAGE..], state);
     if let Some(next) = next {
         for line in write_image(&next).chunks(32) {
             for b in line {
@@ -68,7 +69,8 @@ pub fn show_trace(trace: &[u8]) -> String {
     for e in &events {
         let said = match e {
             Event::Retired(r) => {
-                let flags: String = "fcebs".chars().enumerate().map(|(bit, letter)| if r.flags & 1 << bit != 0 { letter } else { '-' }).collect();
+                let letter = |(bit, letter): (usize, char)| if r.flags & 1 << bit != 0 { letter } else { '-' };
+                let flags: String = "fcebs".chars().enumerate().map(letter).collect();
                 format!("retirement {:04X} {flags} {:08X} {:08X} {}", r.op, r.ppc, r.pc, r.raw)
             }
             Event::Break => "break".into(),
@@ -111,7 +113,8 @@ fn worked() -> Vec<Event> {
     ]
 }
 
-// Two instructions in a row, the second of which joins the first or is kept from it by one dispatch rule, and a break between two tries.
+// Two instructions in a row, the second of which joins the first or is kept from it by one dispatch rule, and a break
+// between two tries.
 fn pairs() -> Vec<Event> {
     let mut events = Vec::new();
     let mut at = 0x1000;
@@ -129,6 +132,26 @@ fn pairs() -> Vec<Event> {
         events.push(retired(head, flags, at, at + 2, 4));
         events.push(retired(follower, follower_flags, at + 2, at + 4, 4));
         events.push(Event::Break);
+        at += 4;
+    }
+    events
+}
+
+// A head and a follower that reads what it writes, which the crate's profile pairs and the mended one does not, and a
+// break between two tries.
+fn over_pairing() -> Vec<Event> {
+    let mut events = Vec::new();
+    let mut at = 0x1000;
+    for (head, head_raw, follower) in [
+        (0xB141, 4, 0x3401),  // EOR.W D0,D1, then MOVE.W D1,D2
+        (0x49C0, 4, 0x2400),  // EXTB.L D0, then MOVE.L D0,D2
+        (0xB308, 12, 0x2449), // CMPM.B (A0)+,(A1)+, then MOVEA.L A1,A2
+    ] {
+        if !events.is_empty() {
+            events.push(Event::Break);
+        }
+        events.push(retired(head, 0x1E, at, at + 2, head_raw));
+        events.push(retired(follower, 0x1E, at + 2, at + 4, 4));
         at += 4;
     }
     events
@@ -169,6 +192,7 @@ pub fn examples(to: &Path) -> std::io::Result<()> {
         ("worked", bytes(&worked())),
         ("empty", Vec::new()),
         ("pairs", bytes(&pairs())),
+        ("over-pairing", bytes(&over_pairing())),
         ("branches", bytes(&branches())),
         ("refused-2", damaged(|s| s.extend([0, 0, 2]))),
         ("refused-3", damaged(|s| s[42] = 5)),
@@ -176,12 +200,16 @@ pub fn examples(to: &Path) -> std::io::Result<()> {
         ("refused-5", damaged(|s| s.truncate(79))),
         ("refused-6", damaged(|s| s[26] = 0x3E)),
     ];
+    let write = |name: String, bytes: &[u8]| std::fs::write(to.join(name), bytes);
     for (name, trace) in all {
-        std::fs::write(to.join(format!("{name}.txt")), cost_lister(&trace))?;
-        std::fs::write(to.join(format!("{name}.show.txt")), show_trace(&trace))?;
-        std::fs::write(to.join(format!("{name}.trace")), trace)?;
+        write(format!("{name}.txt"), cost_lister(CRATE, &trace).as_bytes())?;
+        write(format!("{name}.show.txt"), show_trace(&trace).as_bytes())?;
+        write(format!("{name}.trace"), &trace)?;
     }
     let fresh = write_image(&Oep060Timing::default());
-    std::fs::write(to.join("fresh.image"), &fresh)?;
-    std::fs::write(to.join("worked.replay.txt"), replay(&[&fresh[..], &bytes(&worked())].concat()))
+    let replayed = |profile, events: &[Event]| replay(profile, &[&fresh[..], &bytes(events)].concat());
+    write("fresh.image".into(), &fresh)?;
+    write("worked.replay.txt".into(), replayed(CRATE, &worked()).as_bytes())?;
+    write("over-pairing.mended.txt".into(), cost_lister(MENDED, &bytes(&over_pairing())).as_bytes())?;
+    write("over-pairing.mended.replay.txt".into(), replayed(MENDED, &over_pairing()).as_bytes())
 }

@@ -1,11 +1,14 @@
 //! The Rust module itself, asked from the command line.
 //!
 //! oracle all_opcodes   OPCODE WORD USE DEF of all 65,536 opcodes, a line each, in upper-case hex
+//! oracle profile_differences          OPCODE WORD USE DEF WORD USE DEF, the crate's and the mended profile's, of each
+//!                                     opcode of which these differ, and then how many there are
 //! oracle rule_page DEFINITION         the page of the rules, whose names are read from the file DEFINITION
 //! oracle worked        the worked instructions of document 01 that are run: the fallback, and RTS that flowed
 //! oracle cases_input, oracle cases    the cases that the gate replays, and what the port must answer
 //! oracle lister_limit                 what the lister must print of 65,536 and of 65,537 bytes of breaks
-//! oracle cost_lister, oracle replay, oracle show_trace    what these programs must print of standard input
+//! oracle cost_lister [crate|mended], oracle replay [crate|mended], oracle show_trace
+//!                                     what these programs must print of standard input
 //! oracle show_trace_input             the trace that the gate shows
 //! oracle random_trace SEED            a trace of up to some 3,000 records, one in two damaged
 //! oracle examples DIR                 writes the examples and what the programs must print of them
@@ -21,8 +24,8 @@ mod core060 {
     pub mod timing_060;
 }
 
-use core060::cpu::CpuCore;
-use core060::timing_060::{classify_060_opcode, info_060, reg_masks_060};
+use core060::cpu::{CRATE, CpuCore, MENDED};
+use core060::timing_060::{classify_060_opcode, info_060, mended};
 use std::io::{BufWriter, Error, Read, Result, Write};
 
 const RTS: u32 = 0x4E75;
@@ -33,13 +36,28 @@ fn class_word(op: u16) -> u16 {
     word
 }
 
+fn shown((word, uses, defs): mended::Answer) -> String {
+    format!("{word:04X} {uses:04X} {defs:04X}")
+}
+
 fn all_opcodes(out: &mut impl Write) -> Result<()> {
-    for op in 0..=0xFFFFu16 {
-        let word = class_word(op);
-        let (uses, defs) = reg_masks_060(op);
-        writeln!(out, "{op:04X} {word:04X} {uses:04X} {defs:04X}")?;
+    for op in 0..=0xFFFF {
+        assert_eq!(class_word(op), mended::of_crate(op).0);
+        writeln!(out, "{op:04X} {}", shown(mended::of_crate(op)))?;
     }
     Ok(())
+}
+
+fn profile_differences(out: &mut impl Write) -> Result<()> {
+    let mut differ = 0;
+    for op in 0..=0xFFFF {
+        let (of_crate, answer) = (mended::of_crate(op), mended::answer(op));
+        if of_crate != answer {
+            differ += 1;
+            writeln!(out, "{op:04X} {} {}", shown(of_crate), shown(answer))?;
+        }
+    }
+    writeln!(out, "differ {differ}")
 }
 
 // Nothing is written unless all of the page is right.
@@ -82,33 +100,41 @@ fn differential(words: &[String]) -> ! {
     }
 }
 
+const USAGE: &str = "oracle all_opcodes | profile_differences | rule_page DEFINITION | worked | cases_input | cases \
+    | lister_limit | cost_lister [crate|mended] | replay [crate|mended] | show_trace | show_trace_input \
+    | random_trace SEED | examples DIR | differential SEED SCALE RUNNER..";
+
 fn main() {
     let words: Vec<String> = std::env::args().skip(1).collect();
-    let asked = words.first().cloned();
-    if asked.as_deref() == Some("differential") {
+    if words.first().is_some_and(|word| word == "differential") {
         differential(&words[1..]);
     }
+    // Longer input than this is refused whatever it holds, so that an endless one need not be read.
     let input = || -> Result<Vec<u8>> {
         let mut bytes = Vec::new();
-        std::io::stdin().read_to_end(&mut bytes)?;
+        std::io::stdin().take(1 << 20).read_to_end(&mut bytes)?;
         Ok(bytes)
     };
     let mut out = BufWriter::new(std::io::stdout().lock());
-    let done = match asked.as_deref() {
-        Some("all_opcodes") => all_opcodes(&mut out),
-        Some("rule_page") if words.len() == 2 => rule_page(&words[1], &mut out),
-        Some("worked") => worked(&mut out),
-        Some("cases_input") => out.write_all(&differential::input(&differential::sample())),
-        Some("cases") => out.write_all(differential::expected(&differential::sample()).as_bytes()),
-        Some("lister_limit") => out.write_all(listing::lister_limit().as_bytes()),
-        Some("cost_lister") => input().and_then(|s| out.write_all(listing::cost_lister(&s).as_bytes())),
-        Some("replay") => input().and_then(|s| out.write_all(listing::replay(&s).as_bytes())),
-        Some("show_trace") => input().and_then(|s| out.write_all(listing::show_trace(&s).as_bytes())),
-        Some("show_trace_input") => out.write_all(&listing::show_trace_input()),
-        Some("random_trace") if words.len() == 2 => out.write_all(&differential::random_trace(words[1].parse().unwrap_or(0))),
-        Some("examples") if words.len() == 2 => listing::examples(std::path::Path::new(&words[1])),
+    let mut print = |text: String| out.write_all(text.as_bytes());
+    let done = match words.iter().map(String::as_str).collect::<Vec<_>>()[..] {
+        ["all_opcodes"] => all_opcodes(&mut out),
+        ["profile_differences"] => profile_differences(&mut out),
+        ["rule_page", definition] => rule_page(definition, &mut out),
+        ["worked"] => worked(&mut out),
+        ["cases_input"] => out.write_all(&differential::input(&differential::sample())),
+        ["cases"] => print(differential::expected(&differential::sample())),
+        ["lister_limit"] => print(listing::lister_limit()),
+        ["cost_lister"] | ["cost_lister", "crate"] => input().and_then(|s| print(listing::cost_lister(CRATE, &s))),
+        ["cost_lister", "mended"] => input().and_then(|s| print(listing::cost_lister(MENDED, &s))),
+        ["replay"] | ["replay", "crate"] => input().and_then(|s| print(listing::replay(CRATE, &s))),
+        ["replay", "mended"] => input().and_then(|s| print(listing::replay(MENDED, &s))),
+        ["show_trace"] => input().and_then(|s| print(listing::show_trace(&s))),
+        ["show_trace_input"] => out.write_all(&listing::show_trace_input()),
+        ["random_trace", seed] => out.write_all(&differential::random_trace(seed.parse().unwrap_or(0))),
+        ["examples", folder] => listing::examples(std::path::Path::new(folder)),
         _ => {
-            eprintln!("usage: oracle all_opcodes | rule_page DEFINITION | worked | cases_input | cases | lister_limit | cost_lister | replay | show_trace | show_trace_input | random_trace SEED | examples DIR | differential SEED SCALE RUNNER..");
+            eprintln!("usage: {USAGE}");
             std::process::exit(2);
         }
     };

@@ -1,6 +1,13 @@
 //! A host that retires the four instructions of document 01's worked trace, saves its state and goes on from it, and
-//! prints what the cost lister prints.
-use timing_060::{Flags, Refused, Retirement, Timing060};
+//! prints what the cost lister prints. Then it holds the two profiles against each other, and prints nothing.
+use timing_060::{Flags, Profile, Refused, Retirement, Timing060};
+
+/// The clocks of MOVE.W D1,D2 behind EOR.W D0,D1, which writes D1: only the crate's profile pairs the two.
+fn behind_eor(profile: Profile, flags: Flags) -> u32 {
+    let mut timing = Timing060::new(profile);
+    timing.retire(Retirement { op: 0xB141, flags, ppc: 0x1000, pc: 0x1002, raw: 4 });
+    timing.retire(Retirement { op: 0x3401, flags, ppc: 0x1002, pc: 0x1004, raw: 4 })
+}
 
 fn main() -> Result<(), Refused> {
     let cached = Flags { flowed: false, cached: true, ess: true, ebc: true, supervisor: true };
@@ -11,7 +18,7 @@ fn main() -> Result<(), Refused> {
         Retirement { op: 0x60FE, flags: flowed, ppc: 0x1004, pc: 0x1004, raw: 10 },
         Retirement { op: 0x60FE, flags: flowed, ppc: 0x1004, pc: 0x1004, raw: 10 },
     ];
-    let mut timing = Timing060::new();
+    let mut timing = Timing060::new(Profile::Crate);
     let mut total = 0u64;
     println!("index opcode clocks");
     for (i, r) in program.into_iter().enumerate() {
@@ -21,9 +28,10 @@ fn main() -> Result<(), Refused> {
         if i == 1 {
             // A break, and the state through an image: neither changes what follows, since the window is shut here.
             timing.break_pipeline();
-            timing = Timing060::from_image(&timing.image())?;
+            timing = Timing060::from_image(&timing.image(), timing.profile())?;
         }
     }
     println!("total {} {total}", program.len());
+    assert_eq!([Profile::Crate, Profile::Mended].map(|p| behind_eor(p, cached)), [0, 1]);
     Ok(())
 }

@@ -1,16 +1,17 @@
 //! The clocks of retired 68060 instructions.
 //!
 //! [`Timing060`] is the timing state that an emulator keeps beside its CPU: a branch cache of 256 slots and the pairing
-//! window. Each retired instruction goes through [`Timing060::retire`], which answers its clocks. The work is done by a
-//! library whose every function is proved to meet its contract, libtiming_060.a; this crate adds the calls and nothing
-//! else. It cannot be misused: every state, instruction, trace and image has an answer or a [`Refusal`].
+//! window, in a [`Profile`] that is chosen at start. Each retired instruction goes through [`Timing060::retire`], which
+//! answers its clocks. The work is done by a library whose every function is proved to meet its contract,
+//! libtiming_060.a; this crate adds the calls and nothing else. It cannot be misused: every state, instruction, trace
+//! and image has an answer or a [`Refusal`].
 //!
 //! The library is for x86-64 Linux. On other targets this crate is checked and documented, but nothing can be linked.
 //!
 //! ```
-//! use timing_060::{Flags, Retirement, Timing060};
+//! use timing_060::{Flags, Profile, Retirement, Timing060};
 //!
-//! let mut timing = Timing060::new();
+//! let mut timing = Timing060::new(Profile::Crate);
 //! let flags = Flags { flowed: false, cached: true, ess: true, ebc: true, supervisor: true };
 //! let clocks = timing.retire(Retirement { op: 0x7000, flags, ppc: 0x1000, pc: 0x1002, raw: 4 });
 //! assert_eq!(clocks, 1);
@@ -32,6 +33,19 @@ pub const RECORD_BYTES: usize = 20;
 pub const COST_BYTES: usize = 4;
 /// A state as an image.
 pub const IMAGE_BYTES: usize = 1288;
+
+/// The timing profile, chosen at start: what the opcodes are to the pairing window. States have one, images and traces
+/// have none.
+#[derive(Clone, Copy, Debug, Default, PartialEq, Eq, Hash)]
+#[repr(u32)]
+pub enum Profile {
+    /// That of the crate m68k 0.15.1: its clocks, pairs that the hardware cannot make included. The default.
+    #[default]
+    Crate = 0,
+    /// EOR between data registers, EXTB.L, CMPM, MOVES, UNPK, CHK on D4 and LEA into A4 are mended. Of MOVE,
+    /// MOVEQ, ADDQ, SUBQ, EOR, EXTB and CMPM none pairs behind one that writes a register which it reads or writes.
+    Mended = 1,
+}
 
 /// What the host knows of a retirement, as yes or no.
 #[derive(Clone, Copy, Debug, Default, PartialEq, Eq)]
@@ -119,28 +133,36 @@ pub struct Timing060 {
     tags: sys::Tags,
     state: sys::Slots,
     window: sys::Window,
+    profile: Profile,
 }
 
+/// A fresh state of the default profile, [`Profile::Crate`].
 impl Default for Timing060 {
     fn default() -> Self {
-        Self::new()
+        Self::new(Profile::default())
     }
 }
 
 // Every call lends references and slices, which are what they say: the library asks nothing else.
 impl Timing060 {
-    /// A fresh state.
-    pub fn new() -> Self {
-        let mut t = Timing060 { tags: [0; 256], state: [0; 256], window: [0; 5] };
+    /// A fresh state of a profile.
+    pub fn new(profile: Profile) -> Self {
+        let mut t = Timing060 { tags: [0; 256], state: [0; 256], window: [0; 5], profile };
         unsafe { sys::timing_060_fresh_at(&mut t.tags, &mut t.state, &mut t.window) };
         t
+    }
+
+    /// The profile that was chosen.
+    pub fn profile(&self) -> Profile {
+        self.profile
     }
 
     /// One retired instruction: its clocks.
     #[inline]
     pub fn retire(&mut self, r: Retirement) -> u32 {
         let (tags, state, window) = (&mut self.tags, &mut self.state, &mut self.window);
-        unsafe { sys::timing_060_retire_at(tags, state, window, r.op, r.flags.bits(), r.ppc, r.pc, r.raw) }
+        let (profile, flags) = (self.profile as u32, r.flags.bits());
+        unsafe { sys::timing_060_retire_at(tags, state, window, profile, r.op, flags, r.ppc, r.pc, r.raw) }
     }
 
     /// The pipeline breaks: the pairing window is shut, and nothing else changes.
@@ -162,17 +184,19 @@ impl Timing060 {
     /// beyond the last cost stay. A flag bit above the five is refused: [`Refusal::Flag`].
     pub fn run_trace(&mut self, trace: &[u8], costs: &mut [u8]) -> Result<Ran, Refused> {
         let (s, c) = (sys::Shared::of(trace), sys::Lent::of(costs));
-        answer(unsafe { sys::timing_060_run_trace_at(s, c, &mut self.tags, &mut self.state, &mut self.window) })
+        let (tags, state, window) = (&mut self.tags, &mut self.state, &mut self.window);
+        answer(unsafe { sys::timing_060_run_trace_at(s, c, tags, state, window, self.profile as u32) })
     }
 
     /// Runs a batch of at most [`BATCH_RECORDS`]: a place for each record. Places beyond the last cost stay.
     pub fn run_batch(&mut self, records: &[Record], costs: &mut [u32]) -> Result<Ran, Refused> {
         let s = sys::Shared { at: records.as_ptr().cast(), count: (records.len() as u64).saturating_mul(4) };
         let c = sys::Lent::of(costs);
-        answer(unsafe { sys::timing_060_run_batch_at(s, c, &mut self.tags, &mut self.state, &mut self.window) })
+        let (tags, state, window) = (&mut self.tags, &mut self.state, &mut self.window);
+        answer(unsafe { sys::timing_060_run_batch_at(s, c, tags, state, window, self.profile as u32) })
     }
 
-    /// The state as bytes.
+    /// The state as bytes, but for the profile.
     pub fn image(&self) -> [u8; IMAGE_BYTES] {
         let mut image = [0; IMAGE_BYTES];
         let room = sys::Lent::of(&mut image);
@@ -180,22 +204,22 @@ impl Timing060 {
         image
     }
 
-    /// The state of an image.
-    pub fn from_image(image: &[u8]) -> Result<Self, Refused> {
-        let mut t = Self::new();
+    /// The state of an image, in a profile: the image does not carry it.
+    pub fn from_image(image: &[u8], profile: Profile) -> Result<Self, Refused> {
+        let mut t = Self::new(profile);
         let s = sys::Shared::of(image);
         answer(unsafe { sys::timing_060_image_read_at(s, &mut t.tags, &mut t.state, &mut t.window) }).map(|_| t)
     }
 }
 
-/// The class word of an opcode: class in bits 0 and 1, clocks in bits 2 to 6, then its flags.
-pub fn class_word(op: u16) -> u16 {
-    unsafe { sys::timing_060_class_word(op) }
+/// The class word of an opcode in a profile: class in bits 0 and 1, clocks in bits 2 to 6, then its flags.
+pub fn class_word(op: u16, profile: Profile) -> u16 {
+    unsafe { sys::timing_060_class_word(op, profile as u32) }
 }
 
-/// The register masks of an opcode.
-pub fn masks(op: u16) -> Masks {
-    let m = unsafe { sys::timing_060_masks_of(op) };
+/// The register masks of an opcode in a profile.
+pub fn masks(op: u16, profile: Profile) -> Masks {
+    let m = unsafe { sys::timing_060_masks_of(op, profile as u32) };
     Masks { uses: m.uses, defs: m.defs }
 }
 

@@ -68,6 +68,7 @@ extern "C" {
         tags: &mut Tags,
         state: &mut Slots,
         window: &mut Window,
+        profile: u32,
         op: u16,
         flags: u16,
         ppc: u32,
@@ -77,14 +78,15 @@ extern "C" {
     pub fn timing_060_break_at(window: &mut Window);
     pub fn timing_060_clear_all_at(state: &mut Slots, window: &mut Window);
     pub fn timing_060_clear_user_at(state: &mut Slots, window: &mut Window);
-    pub fn timing_060_class_word(op: u16) -> u16;
-    pub fn timing_060_masks_of(op: u16) -> HostMasks;
+    pub fn timing_060_class_word(op: u16, profile: u32) -> u16;
+    pub fn timing_060_masks_of(op: u16, profile: u32) -> HostMasks;
     pub fn timing_060_run_trace_at(
         trace: Shared<u8>,
         costs: Lent<u8>,
         tags: &mut Tags,
         state: &mut Slots,
         window: &mut Window,
+        profile: u32,
     ) -> HostRan;
     pub fn timing_060_run_batch_at(
         records: Shared<u32>,
@@ -92,6 +94,7 @@ extern "C" {
         tags: &mut Tags,
         state: &mut Slots,
         window: &mut Window,
+        profile: u32,
     ) -> HostRan;
     pub fn timing_060_image_write_at(tags: &Tags, state: &Slots, window: &Window, image: Lent<u8>) -> HostRan;
     pub fn timing_060_image_read_at(

@@ -1,11 +1,13 @@
 use timing_060::*;
 
+const PROFILES: [Profile; 2] = [Profile::Crate, Profile::Mended];
+const CACHED: Flags = Flags { flowed: false, cached: true, ess: true, ebc: true, supervisor: true };
+
 fn program() -> [Retirement; 4] {
-    let cached = Flags { flowed: false, cached: true, ess: true, ebc: true, supervisor: true };
-    let flowed = Flags { flowed: true, ..cached };
+    let flowed = Flags { flowed: true, ..CACHED };
     [
-        Retirement { op: 0x7000, flags: cached, ppc: 0x1000, pc: 0x1002, raw: 4 },
-        Retirement { op: 0x7200, flags: cached, ppc: 0x1002, pc: 0x1004, raw: 4 },
+        Retirement { op: 0x7000, flags: CACHED, ppc: 0x1000, pc: 0x1002, raw: 4 },
+        Retirement { op: 0x7200, flags: CACHED, ppc: 0x1002, pc: 0x1004, raw: 4 },
         Retirement { op: 0x60FE, flags: flowed, ppc: 0x1004, pc: 0x1004, raw: 10 },
         Retirement { op: 0x60FE, flags: flowed, ppc: 0x1004, pc: 0x1004, raw: 10 },
     ]
@@ -20,19 +22,66 @@ const TRACE: [u8; 4 * RECORD_BYTES] = [
     0x10, 0, 1, 0, 0xFE, 0x60, 0x1F, 0, 0x04, 0x10, 0, 0, 0x04, 0x10, 0, 0, 10, 0, 0, 0,
 ];
 
+/// EOR.W D0,D1 and MOVE.W D1,D2, which reads what the EOR writes.
+const OVER_PAIRED: [Retirement; 2] = [
+    Retirement { op: 0xB141, flags: CACHED, ppc: 0x1000, pc: 0x1002, raw: 4 },
+    Retirement { op: 0x3401, flags: CACHED, ppc: 0x1002, pc: 0x1004, raw: 4 },
+];
+
 fn refused<T>(refusal: Refusal, place: u64) -> Result<T, Refused> {
     Err(Refused { refusal, place })
 }
 
 #[test]
 fn step_by_step() {
-    let mut t = Timing060::new();
-    assert_eq!(program().map(|r| t.retire(r)), [1, 0, 7, 1]);
+    for profile in PROFILES {
+        let mut t = Timing060::new(profile);
+        assert_eq!(program().map(|r| t.retire(r)), [1, 0, 7, 1]);
+    }
+}
+
+/// Only the crate's profile pairs behind EOR: in steps, from an image, in a batch and in a trace.
+#[test]
+fn over_paired() {
+    let records = OVER_PAIRED.map(Record::from);
+    let mut trace = TRACE[..2 * RECORD_BYTES].to_vec();
+    trace[4..6].copy_from_slice(&OVER_PAIRED[0].op.to_le_bytes());
+    trace[24..26].copy_from_slice(&OVER_PAIRED[1].op.to_le_bytes());
+    for (profile, second) in PROFILES.into_iter().zip([0, 1]) {
+        let fresh = Timing060::new(profile);
+        let mut t = fresh.clone();
+        assert_eq!(t.retire(OVER_PAIRED[0]), 1);
+        let mut read = Timing060::from_image(&t.image(), profile).unwrap();
+        assert_eq!(read, t);
+        assert_eq!((t.retire(OVER_PAIRED[1]), read.retire(OVER_PAIRED[1])), (second, second));
+        t.break_pipeline();
+        t.clear_all();
+        t.clear_user();
+        assert_eq!((t.profile(), read.profile()), (profile, profile));
+        let ran = Ok(Ran { count: 2, total: 1 + u64::from(second) });
+        let (mut costs, mut bytes) = ([9; 2], [9; 2 * COST_BYTES]);
+        assert_eq!(fresh.clone().run_batch(&records, &mut costs), ran);
+        assert_eq!(fresh.clone().run_trace(&trace, &mut bytes), ran);
+        assert_eq!((costs, bytes), ([1, second], [1, 0, 0, 0, second as u8, 0, 0, 0]));
+    }
+    assert_eq!(Timing060::default(), Timing060::new(Profile::Crate));
+    assert_ne!(Timing060::default(), Timing060::new(Profile::Mended));
+}
+
+/// An image in the other profile: the window keeps what the head defines, and what follows is read anew.
+#[test]
+fn image_in_the_other_profile() {
+    for (head, follower, second) in [(Profile::Crate, Profile::Mended, 0), (Profile::Mended, Profile::Crate, 1)] {
+        let mut t = Timing060::new(head);
+        t.retire(OVER_PAIRED[0]);
+        let mut t = Timing060::from_image(&t.image(), follower).unwrap();
+        assert_eq!((t.profile(), t.retire(OVER_PAIRED[1])), (follower, second));
+    }
 }
 
 #[test]
 fn batch_and_places_beyond() {
-    let mut t = Timing060::new();
+    let mut t = Timing060::new(Profile::Crate);
     let records = program().map(Record::from);
     let mut costs = [9; 6];
     assert_eq!(t.run_batch(&records, &mut costs), Ok(Ran { count: 4, total: 9 }));
@@ -47,7 +96,7 @@ fn batch_and_places_beyond() {
 
 #[test]
 fn trace_and_refusals() {
-    let mut t = Timing060::new();
+    let mut t = Timing060::new(Profile::Crate);
     let mut costs = [0xAA; 4 * COST_BYTES + 1];
     assert_eq!(t.run_trace(&TRACE, &mut costs), Ok(Ran { count: 4, total: 9 }));
     let all = [1, 0, 0, 0, 0, 0, 0, 0, 7, 0, 0, 0, 1, 0, 0, 0, 0xAA];
@@ -70,21 +119,21 @@ fn trace_and_refusals() {
 
 #[test]
 fn images() {
-    let mut t = Timing060::new();
+    let mut t = Timing060::new(Profile::Crate);
     for r in program() {
         t.retire(r);
     }
     t.retire(program()[0]);
     let image = t.image();
-    assert_eq!(Timing060::from_image(&image), Ok(t.clone()));
-    assert_eq!(Timing060::from_image(&image[..1287]), refused(Refusal::ImageLength, 0));
-    assert_eq!(Timing060::from_image(&[]), refused(Refusal::ImageLength, 0));
+    assert_eq!(Timing060::from_image(&image, Profile::Crate), Ok(t.clone()));
+    assert_eq!(Timing060::from_image(&image[..1287], Profile::Crate), refused(Refusal::ImageLength, 0));
+    assert_eq!(Timing060::from_image(&[], Profile::Mended), refused(Refusal::ImageLength, 0));
     let mut other = image;
     other[2] = 17;
-    assert_eq!(Timing060::from_image(&other), refused(Refusal::ImageHeader, 0));
+    assert_eq!(Timing060::from_image(&other, Profile::Crate), refused(Refusal::ImageHeader, 0));
     other = image;
     other[1284] = 2;
-    assert_eq!(Timing060::from_image(&other), refused(Refusal::ImageWindow, 1284));
+    assert_eq!(Timing060::from_image(&other, Profile::Crate), refused(Refusal::ImageWindow, 1284));
     t.break_pipeline();
     assert_eq!(&t.image()[1284..], [0, 0, 0, 0]);
     t.clear_user();
@@ -95,12 +144,24 @@ fn images() {
 
 #[test]
 fn opcodes() {
-    assert_eq!((class_word(0x7000), masks(0x7000)), (0x0404, Masks { uses: 0, defs: 1 }));
-    assert_eq!((class_word(0x49D0), masks(0x49D0)), (0xC404, Masks { uses: 0x0100, defs: 0x1000 }));
+    let of = |op, profile| (class_word(op, profile), masks(op, profile));
+    for profile in PROFILES {
+        assert_eq!(of(0x7000, profile), (0x0404, Masks { uses: 0, defs: 1 }));
+    }
+    assert_eq!(of(0x49D0, Profile::Crate), (0xC404, Masks { uses: 0x0100, defs: 0x1000 }));
+    assert_eq!(of(0xB141, Profile::Crate), (0x0404, Masks { uses: 3, defs: 0 }));
+    assert_eq!(of(0xB141, Profile::Mended), (0x0404, Masks { uses: 3, defs: 2 }));
+    assert_eq!(of(0x49C0, Profile::Mended), (0x0404, Masks { uses: 1, defs: 1 }));
+    assert_eq!(of(0xB308, Profile::Mended), (0x4404, Masks { uses: 0x0300, defs: 0x0300 }));
+    // MOVES as what is unclassified, UNPK as PACK, CHK and LEA on register 4 as on register 0
+    for (op, other) in [(0x0E00, 0xA000), (0x8180, 0x8140), (0x4900, 0x4100), (0x4980, 0x4180), (0x49D0, 0x41D0)] {
+        assert_eq!(class_word(op, Profile::Mended), class_word(other, Profile::Crate), "{op:04X}");
+        assert_eq!(masks(op, Profile::Mended), masks(op, Profile::Crate), "{op:04X}");
+    }
 }
 
 #[test]
 fn an_error() {
-    let e: Box<dyn std::error::Error> = Box::new(Timing060::from_image(&[0; 1288]).unwrap_err());
+    let e: Box<dyn std::error::Error> = Box::new(Timing060::from_image(&[0; 1288], Profile::Crate).unwrap_err());
     assert_eq!(e.to_string(), "refused 9 at 0: the image's header is wrong");
 }

@@ -132,7 +132,8 @@ fn slot_text(byte: u8, tag: u32, ppc: u32) -> String {
 
 fn step_text(s: &Step) -> String {
     let (flags, window, slot) = (flags_text(s.flags), window_text(s.window), slot_text(s.byte, s.tag, s.ppc));
-    format!("opcode {:04X}, {flags}, {window}, raw {}, ppc {:08X}, pc {:08X}, {slot}", s.op, s.raw, s.ppc, s.pc)
+    let places = format!("ppc {:08X}, pc {:08X}", s.ppc, s.pc);
+    format!("profile {}, opcode {:04X}, {flags}, {window}, raw {}, {places}, {slot}", s.profile, s.op, s.raw)
 }
 
 fn after_text(s: &Step, a: &After) -> String {

@@ -1,10 +1,13 @@
 //! The parts of the product: what one retirement, a clear and a break can tell apart.
-use crate::core060::timing_060::{F_BRANCH, info_060};
+use crate::core060::cpu::{CRATE, MENDED};
+use crate::core060::timing_060::{F_BRANCH, info_060, mended};
 use crate::pair::{Pair, slots_from};
 use crate::sides::*;
 
 pub struct Part {
     pub name: &'static str,
+    /// By which the Rust steps, and for which its steps count.
+    pub profile: u32,
     /// How many there are of each factor: the product is the number of steps.
     pub factors: Vec<(usize, &'static str)>,
     /// Steps through all that goes with one of the first factor, which the threads share out.
@@ -22,6 +25,20 @@ const FLAGS: usize = 32;
 /// Opcodes that are branches, or that are none.
 fn opcodes(branches: bool) -> Vec<u16> {
     (0..=0xFFFF).filter(|&op| info_060(op).has(F_BRANCH) == branches).collect()
+}
+
+/// Opcodes of which the mended profile has another class word or other masks, or of which it has the crate's. The
+/// first are no branches by either profile, so that the parts of branches need not go by the mended one.
+fn opcodes_mended(differ: bool) -> Vec<u16> {
+    let all: Vec<u16> = (0..=0xFFFF).filter(|&op| (mended::answer(op) != mended::of_crate(op)) == differ).collect();
+    let is_branch = |&op: &u16| info_060(op).has(F_BRANCH) || mended::info_060(op).has(F_BRANCH);
+    assert!(!(differ && all.iter().any(is_branch)), "the mended profile mends a branch");
+    all
+}
+
+/// What is no branch: by the crate's profile all, and by the mended one those that it mends.
+fn opcodes_by(profile: u32) -> Vec<u16> {
+    if profile == MENDED { opcodes_mended(true) } else { opcodes(false) }
 }
 
 const ALL_FIELDS: Window = [1, 0xFFFF, 1, 1, 1];
@@ -44,20 +61,21 @@ fn windows() -> Vec<Window> {
 }
 
 /// A step that is no branch meets a slot which any update would change: valid, its tag equal, its counter 2.
-fn plain_step(op: u16) -> Step {
+fn plain_step(profile: u32, op: u16) -> Step {
     let ppc = 0x0040_0000 + op as u32;
-    Step { op, flags: 0, raw: 0, ppc, pc: ppc.wrapping_add(2), window: SHUT, byte: 0x06, tag: ppc }
+    Step { profile, op, flags: 0, raw: 0, ppc, pc: ppc.wrapping_add(2), window: SHUT, byte: 0x06, tag: ppc }
 }
 
 /// Every opcode that is no branch. The cost has the raw count only through what the fallback makes of it: here 1, which
 /// is under the floor of a change of flow, and 11, which is over it. All other sides of it are `raw_edges`.
-pub fn no_branches() -> Part {
-    let (ops, windows, raws) = (opcodes(false), windows(), [4, 44]);
+pub fn no_branches(profile: u32) -> Part {
+    let (ops, windows, raws) = (opcodes_by(profile), windows(), [4, 44]);
     Part {
-        name: "no branch",
+        name: if profile == MENDED { "mended" } else { "no branch" },
+        profile,
         factors: vec![(ops.len(), "opcodes"), (FLAGS, "flags"), (windows.len(), "windows"), (raws.len(), "raw counts")],
         each: Box::new(move |pair, i| {
-            let mut s = plain_step(ops[i]);
+            let mut s = plain_step(profile, ops[i]);
             for flags in 0..FLAGS as u16 {
                 s.flags = flags;
                 for &window in &windows {
@@ -83,13 +101,14 @@ fn edges() -> Vec<i32> {
 
 /// The raw counts at the fallback's edges. The window takes part in the cost only by the dispatch test, which reads no
 /// raw count, so that a shut window and one that is joined are enough.
-pub fn raw_edges() -> Part {
-    let (ops, windows, raws) = (opcodes(false), [SHUT, JOINED], edges());
+pub fn raw_edges(profile: u32) -> Part {
+    let (ops, windows, raws) = (opcodes_by(profile), [SHUT, JOINED], edges());
     Part {
-        name: "raw counts at the edges",
+        name: if profile == MENDED { "mended, raw counts at the edges" } else { "raw counts at the edges" },
+        profile,
         factors: vec![(ops.len(), "opcodes"), (FLAGS, "flags"), (windows.len(), "windows"), (raws.len(), "raw counts")],
         each: Box::new(move |pair, i| {
-            let mut s = plain_step(ops[i]);
+            let mut s = plain_step(profile, ops[i]);
             for flags in 0..FLAGS as u16 {
                 s.flags = flags;
                 for window in windows {
@@ -98,6 +117,46 @@ pub fn raw_edges() -> Part {
                         s.raw = raw;
                         pair.compare(&s);
                     }
+                }
+                pair.look_at_other_slots(&s);
+            }
+        }),
+    }
+}
+
+/// Cached, ESS, EBC and supervisor, the flow kept: what the class word and the masks change shows in some window.
+const PAIRING: u16 = CACHED | ESS | EBC | SUPERVISOR;
+
+/// Every opcode that the mended profile leaves as it is, by the mended one: that no more is mended.
+pub fn unmended() -> Part {
+    let (ops, windows) = (opcodes_mended(false), windows());
+    Part {
+        name: "not mended",
+        profile: MENDED,
+        factors: vec![(ops.len(), "opcodes"), (windows.len(), "windows")],
+        each: Box::new(move |pair, i| {
+            let s = Step { flags: PAIRING, raw: 44, ..plain_step(MENDED, ops[i]) };
+            for &window in &windows {
+                pair.compare(&Step { window, ..s });
+            }
+            pair.look_at_other_slots(&s);
+        }),
+    }
+}
+
+/// Numbers of no profile, most of them 1 in their lower bits: by these what the mended profile mends is the crate's.
+pub fn other_numbers() -> Part {
+    let (ops, windows) = (opcodes_mended(true), windows());
+    let numbers = [2, 0x0000_0101, 0x0001_0001, 0x8000_0001, u32::MAX];
+    Part {
+        name: "numbers of no profile",
+        profile: CRATE,
+        factors: vec![(ops.len(), "opcodes"), (numbers.len(), "numbers"), (windows.len(), "windows")],
+        each: Box::new(move |pair, i| {
+            for number in numbers {
+                let s = Step { flags: PAIRING, raw: 44, ..plain_step(number, ops[i]) };
+                for &window in &windows {
+                    pair.compare(&Step { window, ..s });
                 }
                 pair.look_at_other_slots(&s);
             }
@@ -128,6 +187,7 @@ pub fn branches() -> Part {
     let (ops, windows) = (opcodes(true), [SHUT, ALL_FIELDS, NO_FIELDS]);
     Part {
         name: "branches",
+        profile: CRATE,
         factors: vec![
             (ops.len(), "opcodes"),
             (FLAGS, "flags"),
@@ -140,7 +200,7 @@ pub fn branches() -> Part {
         each: Box::new(move |pair, i| {
             for ppc in places(ops[i]) {
                 for flags in 0..FLAGS as u16 {
-                    let s = Step { ppc, flags, ..plain_step(ops[i]) };
+                    let s = Step { ppc, flags, ..plain_step(CRATE, ops[i]) };
                     for window in windows {
                         step_slots(pair, Step { window, ..s });
                     }
@@ -171,6 +231,7 @@ pub fn branch_windows() -> Part {
     let (ops, windows, raws, bytes) = (opcodes(true), windows(), [4, 44, i32::MIN, i32::MAX], [0x00, 0x05, 0x07]);
     Part {
         name: "branches in every window",
+        profile: CRATE,
         factors: vec![
             (ops.len(), "opcodes"),
             (FLAGS, "flags"),
@@ -180,7 +241,7 @@ pub fn branch_windows() -> Part {
             (2, "pc"),
         ],
         each: Box::new(move |pair, i| {
-            let mut s = plain_step(ops[i]);
+            let mut s = plain_step(CRATE, ops[i]);
             for flags in 0..FLAGS as u16 {
                 s.flags = flags;
                 for &window in &windows {
@@ -207,6 +268,7 @@ pub fn clears() -> Part {
     let windows = windows();
     Part {
         name: "clears",
+        profile: CRATE,
         factors: vec![(256, "slot bytes in 256 slots"), (windows.len(), "windows"), (2, "clears")],
         each: Box::new(move |pair, shift| {
             let slots = slots_from(shift);
@@ -224,6 +286,7 @@ pub fn clears() -> Part {
 pub fn breaks() -> Part {
     Part {
         name: "breaks",
+        profile: CRATE,
         factors: vec![(0x1_0000, "def masks"), (8, "fields"), (3, "open or shut")],
         each: Box::new(|pair, defs| {
             for bits in 0..8 {
@@ -242,9 +305,10 @@ const RTS: u16 = 0x4E75;
 pub fn all_raws() -> Part {
     Part {
         name: "all raw counts",
+        profile: CRATE,
         factors: vec![(0x1_0000, "upper halves"), (0x1_0000, "lower halves of a raw count"), (2, "flows")],
         each: Box::new(|pair, high| {
-            let mut s = plain_step(RTS);
+            let mut s = plain_step(CRATE, RTS);
             for flags in [0, FLOWED] {
                 s.flags = flags;
                 for low in 0..=0xFFFF {

@@ -7,6 +7,7 @@ unsafe extern "C" {
         tags: *mut u32,
         state: *mut u8,
         window: *mut u16,
+        profile: u32,
         op: u16,
         flags: u16,
         ppc: u32,
@@ -58,9 +59,10 @@ pub fn slot_of(ppc: u32) -> usize {
     (ppc >> 1) as usize & 0xFF
 }
 
-/// One retirement, and what it meets: the window, and the byte and the tag of its slot.
+/// One retirement by the profile of a number, and what it meets: the window, and the byte and the tag of its slot.
 #[derive(Clone, Copy)]
 pub struct Step {
+    pub profile: u32,
     pub op: u16,
     pub flags: u16,
     pub raw: i32,
@@ -154,7 +156,7 @@ impl Side for Rust {
         cpu.pcr = if s.flags & ESS != 0 { PCR_ESS } else { 0 };
         cpu.cacr = if s.flags & EBC != 0 { CACR_060_EBC } else { 0 };
         cpu.supervisor = s.flags & SUPERVISOR != 0;
-        cpu.cycles_060(s.raw, s.flags & CACHED != 0) as i64
+        cpu.cycles_by(s.profile, s.raw, s.flags & CACHED != 0) as i64
     }
 
     fn break_window(&mut self) {
@@ -205,7 +207,8 @@ impl Side for Library {
 
     fn retire(&mut self, s: &Step) -> i64 {
         let (tags, bytes) = (self.slots.tags.as_mut_ptr(), self.slots.bytes.as_mut_ptr());
-        unsafe { timing_060_retire_at(tags, bytes, self.window.as_mut_ptr(), s.op, s.flags, s.ppc, s.pc, s.raw) as i64 }
+        let window = self.window.as_mut_ptr();
+        unsafe { timing_060_retire_at(tags, bytes, window, s.profile, s.op, s.flags, s.ppc, s.pc, s.raw) as i64 }
     }
 
     fn break_window(&mut self) {
