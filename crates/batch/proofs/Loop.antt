@@ -19,7 +19,7 @@ use mir.Val.{Val}
 use Rattle.state.specs.declared.Retirement.{Retirement}
 use Rattle.state.specs.declared.Stepped.{Stepped}
 use Rattle.state.specs.Events.{total as sum}
-use Rattle.batch.specs.declared.Chosen.{Chosen}
+use Rattle.step.specs.declared.Chosen.{Chosen}
 use Rattle.batch.specs.declared.Carried.{Carried}
 use Rattle.batch.specs.Turning.{seenChosen, beginOf, Reached, reached, payOf}
 use Rattle.batch.proofs.Run.{endOf, paidOf, stepOf, past, end-none, paid-none, end-first, paid-first}

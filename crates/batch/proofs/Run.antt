@@ -16,7 +16,7 @@ use Rattle.state.specs.declared.Stepped.{Stepped}
 use Rattle.refusals.specs.declared.Verdict.{Verdict}
 use Rattle.refusals.specs.declared.Verdict.the-variants.{Accepted, Refused}
 use Rattle.refusals.specs.declared.Refusal.the-variants.{Oversized, Room}
-use Rattle.batch.specs.declared.Chosen.{Chosen}
+use Rattle.step.specs.declared.Chosen.{Chosen}
 use Rattle.batch.specs.Judge.{batchVerdictOf}
 use Rattle.batch.specs.Batch.{batchOutcome, eventsOf, batchOutcomeBy}
 use Rattle.batch.specs.Turning.{runsBy, seenChosen}

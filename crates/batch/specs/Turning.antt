@@ -19,7 +19,7 @@ use Rattle.refusals.specs.declared.Verdict.{Verdict}
 use Rattle.refusals.specs.declared.Verdict.the-variants.{Accepted, Refused}
 use Rattle.refusals.specs.declared.outcome.Ran.{Ran}
 use Rattle.batch.specs.declared.Judged.{Judged}
-use Rattle.batch.specs.declared.Chosen.{Chosen}
+use Rattle.step.specs.declared.Chosen.{Chosen}
 use Rattle.batch.specs.declared.Carried.{Carried}
 use Rattle.batch.specs.Judge.{batchVerdictOf}
 

@@ -1,22 +1,20 @@
 // Part 6 of document 01: the batch, a lent run of retirement records, its costs into lent 32-bit places.
 //
 // `run_batch` judges first, since a refused batch writes no place; then each record is copied out, handed to the step
-// by value (`step`), and paid. The state and the profile come, and are carried, as one (`Chosen`). `host` judges by
-// `batch_verdict` too, and runs a batch of words in place.
+// by value (`step`), and paid. The state and its profile come, and are carried, as the step takes them. `host` judges
+// by `batch_verdict` too, and runs a batch of words in place.
 ghost use mathlib.Core.Path.{_≡_};
 ghost use Prim.Native.Nat.{_+_, _*_, _<_, _≤_, min};
 ghost use lib.ListN.{length, take};
 ghost use Rattle.batch.specs.Judge.{batchVerdictOf};
 ghost use Rattle.batch.specs.Batch.{batchOutcome, batchOf};
-ghost use Rattle.step.specs.Boards.{steppedOf};
 ghost use Rattle.batch.specs.Turning.{judgedBatchOf, beginOf, reached, payOf, finishOf};
-use profile::Profile;
 use refusals::Ran;
 use refusals::Refusal;
 use refusals::Verdict;
-use state::Oep060Timing;
 use state::Retirement;
 use state::Stepped;
+use step::Chosen;
 use step::cycles_060;
 
 // More records are refused.
@@ -26,12 +24,6 @@ const MOST_RECORDS: usize = 1048576;
 struct Judged {
     run: usize,
     verdict: Verdict,
-}
-
-// A state, and the profile that is chosen at start: one struct, since a walk by hand counts what a function is handed.
-pub struct Chosen {
-    pub timing: Oep060Timing,
-    pub profile: Profile,
 }
 
 // What the loop carries from record to record.
@@ -77,14 +69,6 @@ fn begin(chosen: Chosen) -> Carried
     Carried { chosen, total: 0 }
 }
 
-// The step by value, of what is carried.
-fn step_chosen(chosen: Chosen, r: Retirement) -> Stepped
-    ensures { λ x. ⌜ x ≡ steppedOf (chosen .profile) (chosen .timing) r ⌝ }
-{
-    let profile = chosen.profile;
-    cycles_060(chosen.timing, profile, r)
-}
-
 // One record's cost is stored. Up to 1,048,576 costs below 2^32 cannot wrap the total.
 fn pay(costs: &mut [u32], i: usize, carried: Carried, stepped: Stepped) -> Carried
     // There is a place for it and few came before: only `run_batch` calls this, after `judge_batch`.
@@ -127,7 +111,7 @@ pub fn run_batch(rs: &[Retirement], costs: &mut [u32], chosen: Chosen) -> Ran
     let mut i = 0;
     while i < run {
         let r = rs[i];
-        let stepped = step_chosen(carried.chosen, r);
+        let stepped = cycles_060(carried.chosen, r);
         carried = pay(costs, i, carried, stepped);
         i = i + 1;
     }

@@ -8,7 +8,6 @@ ghost use mathlib.Core.Path.{_≡_};
 ghost use mathlib.Core.Bool.{true};
 ghost use Prim.Native.Nat.{_+_, _*_, _≤_};
 ghost use lib.ListN.{length};
-use batch::Chosen;
 use host::HostRan;
 use libc::STDIN_FILENO;
 use libc::STDOUT_FILENO;
@@ -16,6 +15,7 @@ use refusals::Ran;
 use refusals::Verdict;
 use state::Oep060Timing;
 use state::Retirement;
+use step::Chosen;
 use window::RawCount;
 use window::Window;
 

@@ -19,7 +19,7 @@ use Rattle.step.specs.Boards.{steppedOf}
 use Rattle.refusals.specs.declared.Refusal.{Refusal}
 use Rattle.refusals.specs.declared.Verdict.{Verdict}
 use Rattle.refusals.specs.declared.Verdict.the-variants.{Accepted, Refused}
-use Rattle.batch.specs.declared.Chosen.{Chosen}
+use Rattle.step.specs.declared.Chosen.{Chosen}
 use Rattle.batch.specs.Judge.{batchVerdictOf}
 use Rattle.batch.specs.Batch.{batchOutcomeBy, batchAcceptedOf, batchOf}
 use Rattle.batch.proofs.Run.{endOf, paidOf, end-none, paid-none, end-first, paid-first, runs-within}

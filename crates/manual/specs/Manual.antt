@@ -3,23 +3,26 @@
 -- "as Motorola's Programmer's Reference Manual gives them". No mask of ours is read here: only the notation of sets of
 -- registers, D and A among it, is that of masks/Registers. docs/MANUAL.md says from where each line is.
 --
---   Ea                   ==  the addressing modes
---   eaOf mode reg        ==  the mode that three bits of mode and three of register stand for; `reserved` where none is
---   isAny ea             ==  any of the twelve modes: not `reserved`
---   isAlterable ea       ==  the alterable modes: what can be written
---   isAn ea              ==  address register direct
---   direct ea reg        ==  the register that the operand itself is, if it is one
---   pointed ea reg       ==  the registers that are read to reach it: the address register; with an index any register,
---                            since the extension word names it
---   stepped ea reg       ==  the address register that (An)+ and -(An) write
---   source, destination  ==  the mode and register of the low six bits, and of MOVE's destination
---   Form                 ==  is it valid; the registers that it reads; those that it writes
---   form v r w           ==  these three
---   moveForm byte op     ==  MOVE <ea>,<ea> and MOVEA <ea>,An, of byte size or not: no byte of an address register
---   quickForm byte op    ==  ADDQ #d,<ea> and SUBQ #d,<ea>: no byte of an address register
---   eorForm op           ==  EOR Dx,<ea>: <ea> is alterable, and no address register
---   formRows g op        ==  the forms of group g, the first four bits of the opcode
---   formOf op            ==  the form of an opcode; any other instruction's is not valid here
+--   Category              ==  the categories of modes: alterable, what can be written, and of these the address
+--                             register, which no byte operation takes; unalterable; and `reserved`, where there is no
+--                             mode
+--   isAny c               ==  any of the twelve modes
+--   isAlterable c         ==  an alterable mode
+--   isAn c                ==  address register direct
+--   Operand               ==  an operand: its category; `itself`, the register that it is, if it is one; `pointed`, the
+--                             registers that are read to reach it; `stepped`, the register that (An)+ and -(An) write
+--   operand c i p s       ==  the operand of this category, itself i, with p read to reach it and s written
+--   operandRows mode reg  ==  the modes, by three bits of mode and three of register. An index may be any register,
+--                             since the extension word names it
+--   operandOf mode reg    ==  the first of these rows that holds
+--   source, destination   ==  the operand of the low six bits, and MOVE's destination
+--   Form                  ==  is it valid; the registers that it reads; those that it writes
+--   form v r w            ==  these three
+--   moveForm byte op      ==  MOVE <ea>,<ea> and MOVEA <ea>,An, of byte size or not: no byte of an address register
+--   quickForm byte op     ==  ADDQ #d,<ea> and SUBQ #d,<ea>: no byte of an address register
+--   eorForm op            ==  EOR Dx,<ea>: <ea> is alterable, and no address register
+--   formRows g op         ==  the forms of group g, the first four bits of the opcode
+--   formOf op             ==  the form of an opcode; any other instruction's is not valid here
 use Prim.Native.Nat.{ℕ}
 use mathlib.Core.Bool.{Bool, true, false, not, _&&_, _||_}
 use lib.Dec.{eqb}
@@ -29,122 +32,66 @@ use Rattle.bits.specs.Fields.{groupOf, modeOf, regOf, dstModeOf, dstRegOf}
 use Rattle.bits.specs.Rows.{Rows, otherwise, _⇒_⨾_, first}
 use Rattle.masks.specs.Registers.{Regs, D, A, none, all, union}
 
--- Dn; An; (An); (An)+; -(An); (d16,An); (d8,An,Xn); (xxx).W; (xxx).L; (d16,PC); (d8,PC,Xn); #<data>
-pub data Ea : Type 0 where
-  dn an indirect postincrement predecrement displaced indexed absoluteWord absoluteLong pcDisplaced pcIndexed
-      immediate reserved : Ea
+pub data Category : Type 0 where
+  alterable addressRegister unalterable reserved : Category
 
-abbrev pub eaOf : ℕ → ℕ → Ea
-eaOf mode reg = first (
-    eqb mode 0 ⇒ dn ⨾
-    eqb mode 1 ⇒ an ⨾
-    eqb mode 2 ⇒ indirect ⨾
-    eqb mode 3 ⇒ postincrement ⨾
-    eqb mode 4 ⇒ predecrement ⨾
-    eqb mode 5 ⇒ displaced ⨾
-    eqb mode 6 ⇒ indexed ⨾
-    eqb reg 0 ⇒ absoluteWord ⨾
-    eqb reg 1 ⇒ absoluteLong ⨾
-    eqb reg 2 ⇒ pcDisplaced ⨾
-    eqb reg 3 ⇒ pcIndexed ⨾
-    eqb reg 4 ⇒ immediate ⨾
-    otherwise reserved)
-
-abbrev pub isAny : Ea → Bool
-isAny dn = true
-isAny an = true
-isAny indirect = true
-isAny postincrement = true
-isAny predecrement = true
-isAny displaced = true
-isAny indexed = true
-isAny absoluteWord = true
-isAny absoluteLong = true
-isAny pcDisplaced = true
-isAny pcIndexed = true
-isAny immediate = true
+abbrev pub isAny : Category → Bool
+isAny alterable = true
+isAny addressRegister = true
+isAny unalterable = true
 isAny reserved = false
 
-abbrev pub isAlterable : Ea → Bool
-isAlterable dn = true
-isAlterable an = true
-isAlterable indirect = true
-isAlterable postincrement = true
-isAlterable predecrement = true
-isAlterable displaced = true
-isAlterable indexed = true
-isAlterable absoluteWord = true
-isAlterable absoluteLong = true
-isAlterable pcDisplaced = false
-isAlterable pcIndexed = false
-isAlterable immediate = false
+abbrev pub isAlterable : Category → Bool
+isAlterable alterable = true
+isAlterable addressRegister = true
+isAlterable unalterable = false
 isAlterable reserved = false
 
-abbrev pub isAn : Ea → Bool
-isAn dn = false
-isAn an = true
-isAn indirect = false
-isAn postincrement = false
-isAn predecrement = false
-isAn displaced = false
-isAn indexed = false
-isAn absoluteWord = false
-isAn absoluteLong = false
-isAn pcDisplaced = false
-isAn pcIndexed = false
-isAn immediate = false
+abbrev pub isAn : Category → Bool
+isAn alterable = false
+isAn addressRegister = true
+isAn unalterable = false
 isAn reserved = false
 
-abbrev pub direct : Ea → ℕ → Regs
-direct dn reg = D reg
-direct an reg = A reg
-direct indirect reg = none
-direct postincrement reg = none
-direct predecrement reg = none
-direct displaced reg = none
-direct indexed reg = none
-direct absoluteWord reg = none
-direct absoluteLong reg = none
-direct pcDisplaced reg = none
-direct pcIndexed reg = none
-direct immediate reg = none
-direct reserved reg = none
+pub record Operand : Type 0 where
+  pub category : Category
+  pub itself : Regs
+  pub pointed : Regs
+  pub stepped : Regs
 
-abbrev pub pointed : Ea → ℕ → Regs
-pointed dn reg = none
-pointed an reg = none
-pointed indirect reg = A reg
-pointed postincrement reg = A reg
-pointed predecrement reg = A reg
-pointed displaced reg = A reg
-pointed indexed reg = all
-pointed absoluteWord reg = none
-pointed absoluteLong reg = none
-pointed pcDisplaced reg = none
-pointed pcIndexed reg = all
-pointed immediate reg = none
-pointed reserved reg = none
+abbrev pub operand : Category → Regs → Regs → Regs → Operand
+operand c itself pointed stepped = record {
+  category = c;
+  itself = itself;
+  pointed = pointed;
+  stepped = stepped;
+}
 
-abbrev pub stepped : Ea → ℕ → Regs
-stepped dn reg = none
-stepped an reg = none
-stepped indirect reg = none
-stepped postincrement reg = A reg
-stepped predecrement reg = A reg
-stepped displaced reg = none
-stepped indexed reg = none
-stepped absoluteWord reg = none
-stepped absoluteLong reg = none
-stepped pcDisplaced reg = none
-stepped pcIndexed reg = none
-stepped immediate reg = none
-stepped reserved reg = none
+-- Dn; An; (An); (An)+; -(An); (d16,An); (d8,An,Xn); (xxx).W; (xxx).L; (d16,PC); (d8,PC,Xn); #<data>; no mode
+abbrev pub operandRows : ℕ → ℕ → Rows Operand
+operandRows mode reg =
+    eqb mode 0 ⇒ operand alterable (D reg) none none ⨾
+    eqb mode 1 ⇒ operand addressRegister (A reg) none none ⨾
+    eqb mode 2 ⇒ operand alterable none (A reg) none ⨾
+    eqb mode 3 ⇒ operand alterable none (A reg) (A reg) ⨾
+    eqb mode 4 ⇒ operand alterable none (A reg) (A reg) ⨾
+    eqb mode 5 ⇒ operand alterable none (A reg) none ⨾
+    eqb mode 6 ⇒ operand alterable none all none ⨾
+    eqb reg 0 ⇒ operand alterable none none none ⨾
+    eqb reg 1 ⇒ operand alterable none none none ⨾
+    eqb reg 2 ⇒ operand unalterable none none none ⨾
+    eqb reg 3 ⇒ operand unalterable none all none ⨾
+    eqb reg 4 ⇒ operand unalterable none none none ⨾
+    otherwise (operand reserved none none none)
 
-abbrev pub source : ℕ → Ea
-source op = eaOf (modeOf op) (regOf op)
+abbrev pub operandOf : ℕ → ℕ → Operand
+operandOf mode reg = first (operandRows mode reg)
 
-abbrev pub destination : ℕ → Ea
-destination op = eaOf (dstModeOf op) (dstRegOf op)
+abbrev pub source : ℕ → Operand
+source op = operandOf (modeOf op) (regOf op)
+
+abbrev pub destination : ℕ → Operand
+destination op = operandOf (dstModeOf op) (dstRegOf op)
 
 pub record Form : Type 0 where
   pub valid : Bool
@@ -157,26 +104,29 @@ form v r w = record { valid = v; reads = r; writes = w }
 -- the source is read, and the destination written
 abbrev pub moveForm : Bool → ℕ → Form
 moveForm byte op =
+    let from = source op in
+    let to = destination op in
     form
-    (isAny (source op) && isAlterable (destination op) && not (byte && (isAn (source op) || isAn (destination op))))
-    (union (direct (source op) (regOf op))
-    (union (pointed (source op) (regOf op)) (pointed (destination op) (dstRegOf op))))
-    (union (direct (destination op) (dstRegOf op))
-    (union (stepped (source op) (regOf op)) (stepped (destination op) (dstRegOf op))))
+    (isAny (from .category)
+    && isAlterable (to .category)
+    && not (byte && (isAn (from .category) || isAn (to .category))))
+    (union (from .itself) (union (from .pointed) (to .pointed)))
+    (union (to .itself) (union (from .stepped) (to .stepped)))
 
 -- the operand is read and written
 abbrev pub quickForm : Bool → ℕ → Form
 quickForm byte op =
-    form (isAlterable (source op) && not (byte && isAn (source op)))
-    (union (direct (source op) (regOf op)) (pointed (source op) (regOf op)))
-    (union (direct (source op) (regOf op)) (stepped (source op) (regOf op)))
+    let to = source op in
+    form (isAlterable (to .category) && not (byte && isAn (to .category))) (union (to .itself) (to .pointed))
+    (union (to .itself) (to .stepped))
 
 -- and so is EOR's, by a data register
 abbrev pub eorForm : ℕ → Form
 eorForm op =
-    form (isAlterable (source op) && not (isAn (source op)))
-    (union (D (dstRegOf op)) (union (direct (source op) (regOf op)) (pointed (source op) (regOf op))))
-    (union (direct (source op) (regOf op)) (stepped (source op) (regOf op)))
+    let to = source op in
+    form (isAlterable (to .category) && not (isAn (to .category)))
+    (union (D (dstRegOf op)) (union (to .itself) (to .pointed)))
+    (union (to .itself) (to .stepped))
 
 -- MOVE.B; MOVE.L, MOVEA.L; MOVE.W, MOVEA.W; EXTB.L Dy; ADDQ.B, SUBQ.B; ADDQ, SUBQ of words and longs; MOVEQ #d,Dx;
 -- CMPM (Ay)+,(Ax)+; EOR

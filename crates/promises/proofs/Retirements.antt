@@ -47,21 +47,21 @@ every-event P =
 
 -- whatever `cycles_060` may hand back is the machine's cost and next state, so demand 3 is about it: here its first two sentences
 module _ (κs : Lifetimes.Lfts 0) (a : _) (o : _) (x : _) (p : reads.Post κs a o x) where
-  pub cycles-cost : o .cost ≡ clocks (costOf (retiringOf (boardOf (a .1 .0)) (stateOf (a .0)) (a .1 .1 .0)))
+  pub cycles-cost : o .cost ≡ clocks (costOf (retiringOf (boardOf (a .0 .profile)) (stateOf (a .0 .timing)) (a .1 .0)))
   unfolding steppedBy
   cycles-cost = ap (λ (s : Stepped). s .cost) p
 
-  pub cycles-state : o .timing ≡ afterOf (a .1 .0) (a .0) (Retired (a .1 .1 .0))
+  pub cycles-state : o .timing ≡ afterOf (a .0 .profile) (a .0 .timing) (Retired (a .1 .0))
   unfolding steppedBy
   cycles-state = ap (λ (s : Stepped). s .timing) p
 
   pub cycles-zero : (o .cost ≡ clocks 0)
-      ↔ ((a .0 .window .opened && (joins (boardOf (a .1 .0)) (stateOf (a .0)) (a .1 .1 .0) || folds (boardOf (a .1 .0)) (stateOf (a .0)) (a .1 .1 .0))) ≡ true)
+      ↔ ((a .0 .timing .window .opened && (joins (boardOf (a .0 .profile)) (stateOf (a .0 .timing)) (a .1 .0) || folds (boardOf (a .0 .profile)) (stateOf (a .0 .timing)) (a .1 .0))) ≡ true)
   cycles-zero =
-      let zero = board-demand3 (a .1 .0) .zeroExactly (stateOf (a .0)) (a .1 .1 .0) in
+      let zero = board-demand3 (a .0 .profile) .zeroExactly (stateOf (a .0 .timing)) (a .1 .0) in
       (λ z. zero .0 (ap (λ (c : Clocks). c .0) (sym cycles-cost ∙ z)), λ h. cycles-cost ∙ ap clocks (zero .1 h))
 
   pub cycles-zero-shuts : o .cost ≡ clocks 0 → o .timing .window ≡ shut
   cycles-zero-shuts z =
       ap (λ (t : Oep060Timing). t .window) cycles-state
-      ∙ board-demand3 (a .1 .0) .thenShut (stateOf (a .0)) (a .1 .1 .0) (ap (λ (c : Clocks). c .0) (sym cycles-cost ∙ z))
+      ∙ board-demand3 (a .0 .profile) .thenShut (stateOf (a .0 .timing)) (a .1 .0) (ap (λ (c : Clocks). c .0) (sym cycles-cost ∙ z))

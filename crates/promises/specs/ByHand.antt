@@ -25,7 +25,7 @@ use Rattle.window.specs.declared.Window.{Window}
 use Rattle.window.specs.Windows.{shut}
 use Rattle.state.specs.declared.Retirement.{Retirement}
 use Rattle.refusals.specs.declared.outcome.Ran.{Ran}
-use Rattle.batch.specs.declared.Chosen.{Chosen}
+use Rattle.step.specs.declared.Chosen.{Chosen}
 use Rattle.batch.specs.Batch.{batchOutcome, batchOf}
 use Rattle.promises.specs.Determined.{Determined, result}
 

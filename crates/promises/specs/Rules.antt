@@ -2,8 +2,8 @@
 --
 --   modeLineOf six  ==  which of the page's operand modes the low six bits are: the mode, and in mode 7 the register, 5
 --                       to 7 as one
---   EveryRule       ==  the facts, each for every rule, row and opcode; the page has `finishOf n (sixAt m)` at rule n and
---                       mode m (Lines of rule_text)
+--   EveryRule       ==  the facts, each for every rule, row and opcode; the page has `finishOf n (sixAt m)` at rule n
+--                       and mode m (Lines of rule_text)
 use Prim.Native.Nat.{ℕ, _+_, _<_}
 use mathlib.Core.Path.{_≡_}
 use mathlib.Core.Bool.{cond}

@@ -23,6 +23,12 @@ use window::Controls;
 use window::Instruction;
 use window::Window;
 
+// A state, and the profile that is chosen for it at start.
+pub struct Chosen {
+    pub timing: Oep060Timing,
+    pub profile: Profile,
+}
+
 // What the cache says of a branch before it is updated.
 fn answered(cache: BranchCache060, i: Instruction, k: Controls) -> Answer
     ensures { λ r. ⌜ r ≡ answerOf crateCache cache i k ⌝ }
@@ -65,8 +71,8 @@ fn other_060(mut timing: Oep060Timing, i: Instruction, k: Controls) -> Stepped
 }
 
 // The Rust's cycles_060: its lookup, read in the profile.
-pub fn cycles_060(timing: Oep060Timing, profile: Profile, r: Retirement) -> Stepped
-    ensures { λ o. ⌜ o ≡ steppedOf profile timing r ⌝ }
+pub fn cycles_060(chosen: Chosen, r: Retirement) -> Stepped
+    ensures { λ o. ⌜ o ≡ steppedOf (chosen .profile) (chosen .timing) r ⌝ }
 {
     let info = info_060(r.op);
     let masks = reg_masks_060(r.op);
@@ -75,9 +81,10 @@ pub fn cycles_060(timing: Oep060Timing, profile: Profile, r: Retirement) -> Step
         uses: masks.uses,
         defs: masks.defs,
     };
+    let profile = chosen.profile;
     let i = profile::read_in(profile, r.op, looked_up);
     if i.word.has(F_BRANCH) {
-        return branch_060(timing, i, r.controls);
+        return branch_060(chosen.timing, i, r.controls);
     }
-    other_060(timing, i, r.controls)
+    other_060(chosen.timing, i, r.controls)
 }

@@ -6,6 +6,7 @@ use libc::STDOUT_FILENO;
 use profile::Profile;
 use state::Oep060Timing;
 use state::Retirement;
+use step::Chosen;
 use window::Controls;
 use window::RawCount;
 
@@ -36,7 +37,11 @@ fn flowed(asked: &[u8], raw: i32) {
         op: 0x4E75,
         controls,
     };
-    let stepped = step::cycles_060(Oep060Timing::fresh(), Profile::Crate, rts);
+    let chosen = Chosen {
+        timing: Oep060Timing::fresh(),
+        profile: Profile::Crate,
+    };
+    let stepped = step::cycles_060(chosen, rts);
     show(asked, stepped.cost.0);
 }
 

@@ -22,8 +22,8 @@ use denote.Triple.Spec.{Meets, tripleOf}
 use denote.Triple.Table.{entered, cited}
 use denote.Triple.Walked.{AllGo, goes-none-slice, goes-slice, goes-none, Walks, walked, walk-meets}
 use denote.Exit.{yes}
-use Rattle.batch.proofs.Chosen as S
-use Rattle.batch.proofs.Chosen.Laws as S′
+use Rattle.step.proofs.Chosen as S
+use Rattle.step.proofs.Chosen.Laws as S′
 use Rattle.state.proofs.Retirement as R
 use Rattle.batch.proofs.judge_batch.Symbol as judge-def
 use Rattle.batch.proofs.judge_batch.Symbol.{name as #judge}
@@ -37,9 +37,9 @@ use Rattle.batch.proofs.finish.Met as finish-thm
 use Rattle.batch.proofs.pay.Symbol as pay-def
 use Rattle.batch.proofs.pay.Symbol.{name as #pay}
 use Rattle.batch.proofs.pay.Met as pay-thm
-use Rattle.batch.proofs.step_chosen.Symbol as step-def
-use Rattle.batch.proofs.step_chosen.Symbol.{name as #step}
-use Rattle.batch.proofs.step_chosen.Met as step-thm
+use Rattle.step.proofs.cycles_060.Symbol as step-def
+use Rattle.step.proofs.cycles_060.Symbol.{name as #step}
+use Rattle.step.proofs.cycles_060.Met as step-thm
 use Rattle.batch.proofs.run_batch.Key.{name as #key}
 use Rattle.batch.proofs.run_batch as f
 use Rattle.batch.proofs.run_batch.Statement as stated
@@ -105,6 +105,6 @@ run-batch-spec 𝓤 H 𝓜 𝓖 𝓡 =
     (f-meets 𝓤 H (𝓖 .A) (givenOf 𝓤 H 𝓜 𝓖) (𝓜 .mem) (𝓡 .run) (tablesOf 𝓤 H 𝓜 (tables 𝓤 H 𝓜 𝓡 code.env))
     (cited 𝓤 H (Judge 𝓤 H (𝓖 .A) (𝓜 .mem) (𝓡 .run)) 𝓜 𝓡 code.env #judge judge-def.routine code.calls-batch·judge-batch (judge-thm.met 𝓤 H 𝓜 𝓖 𝓡))
     (cited 𝓤 H (Begin 𝓤 H (𝓖 .A) (𝓜 .mem) (𝓡 .run)) 𝓜 𝓡 code.env #begin begin-def.routine code.calls-batch·begin (begin-thm.met 𝓤 H 𝓜 𝓖 𝓡))
-    (cited 𝓤 H (Step 𝓤 H (𝓖 .A) (𝓜 .mem) (𝓡 .run)) 𝓜 𝓡 code.env #step step-def.routine code.calls-batch·step-chosen (step-thm.met 𝓤 H 𝓜 𝓖 𝓡))
+    (cited 𝓤 H (Step 𝓤 H (𝓖 .A) (𝓜 .mem) (𝓡 .run)) 𝓜 𝓡 code.env #step step-def.routine code.calls-step·cycles-060 (step-thm.met 𝓤 H 𝓜 𝓖 𝓡))
     (cited 𝓤 H (Pay 𝓤 H (𝓖 .A) (𝓜 .mem) (𝓡 .run)) 𝓜 𝓡 code.env #pay pay-def.routine code.calls-batch·pay (pay-thm.met 𝓤 H 𝓜 𝓖 𝓡))
     (cited 𝓤 H (Finish 𝓤 H (𝓖 .A) (𝓜 .mem) (𝓡 .run)) 𝓜 𝓡 code.env #finish finish-def.routine code.calls-batch·finish (finish-thm.met 𝓤 H 𝓜 𝓖 𝓡)))

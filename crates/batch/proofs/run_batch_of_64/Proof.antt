@@ -25,8 +25,8 @@ use denote.Triple.Walked.{AllGo, goes-none, goes-gave-slice, Walks, walked, walk
 use denote.Exit.{yes}
 use Rattle.state.proofs.Retirement as R
 use Rattle.state.proofs.Retirement.Laws as R′
-use Rattle.batch.proofs.Chosen as S
-use Rattle.batch.proofs.Chosen.Laws as S′
+use Rattle.step.proofs.Chosen as S
+use Rattle.step.proofs.Chosen.Laws as S′
 use Rattle.batch.proofs.least.Symbol as least-def
 use Rattle.batch.proofs.least.Symbol.{name as #least}
 use Rattle.batch.proofs.least.Met as least-thm

@@ -11,11 +11,11 @@ use Rattle.step.proofs.cycles_060.Statement.{statement}
 use Rattle.step.proofs.cycles_060.Tie as tie
 
 -- what the step goes by is the profile's
-looked-up : (c : tie.After-read-in) → c .read-in .result ≡ profileOf (c .before .before .before .args .profile) (c .before .before .before .args .r .op)
+looked-up : (c : tie.After-read-in) → let a = c .before .before .before .args in c .read-in .result ≡ profileOf (a .chosen .profile) (a .r .op)
 looked-up c =
     let a = c .before .before .before .args in
     c .read-in .ensures
-    ∙ ap₂ (λ (w : Info060) (x : RegMasks060). readIn (a .profile) (a .r .op) (joinedOf w x)) (c .before .before .info-060 .ensures) (c .before .reg-masks-060 .ensures)
+    ∙ ap₂ (λ (w : Info060) (x : RegMasks060). readIn (a .chosen .profile) (a .r .op) (joinedOf w x)) (c .before .before .info-060 .ensures) (c .before .reg-masks-060 .ensures)
 
 branch-060-requires : tie.Need-branch-060-requires
 branch-060-requires c κs = sym (c .before .has .ensures) ∙ c .if1 .taken
@@ -24,7 +24,7 @@ returns : tie.Need-returns
 returns c =
     let d = c .before .before .before in
     let a = d .before .before .before .args in
-    c .branch-060 .ensures ∙ ap (λ (i : Instruction). steppedBy (a .timing) i (a .r .controls)) (looked-up d)
+    c .branch-060 .ensures ∙ ap (λ (i : Instruction). steppedBy (a .chosen .timing) i (a .r .controls)) (looked-up d)
 
 other-060-requires : tie.Need-other-060-requires
 other-060-requires c κs = sym (c .before .has .ensures) ∙ c .if1 .left
@@ -33,7 +33,7 @@ returns-2 : tie.Need-returns-2
 returns-2 c =
     let d = c .before .before .before in
     let a = d .before .before .before .args in
-    c .other-060 .ensures ∙ ap (λ (i : Instruction). steppedBy (a .timing) i (a .r .controls)) (looked-up d)
+    c .other-060 .ensures ∙ ap (λ (i : Instruction). steppedBy (a .chosen .timing) i (a .r .controls)) (looked-up d)
 
 pub cycles-060-spec : {M : Type 1} → statement M
 cycles-060-spec =

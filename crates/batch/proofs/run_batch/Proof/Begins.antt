@@ -21,8 +21,8 @@ use denote.Slice.{ShrSlice, MutSlice}
 use denote.Index.{looks-slice}
 use denote.Struct.Laws as LL
 use Rattle.batch.specs.Turning.{beginOf}
-use Rattle.batch.proofs.Chosen as S
-use Rattle.batch.proofs.Chosen.Laws as S′
+use Rattle.step.proofs.Chosen as S
+use Rattle.step.proofs.Chosen.Laws as S′
 use Rattle.state.proofs.Retirement as R
 use Rattle.state.proofs.Retirement.Laws as R′
 use Rattle.state.proofs.Stepped.Laws as X′

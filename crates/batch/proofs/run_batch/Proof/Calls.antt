@@ -25,7 +25,7 @@ use denote.Struct.Laws as LL
 use denote.Triple.Walked.{says}
 use Rattle.state.specs.declared.Stepped.{Stepped}
 use Rattle.batch.specs.declared.Carried.{Carried}
-use Rattle.batch.proofs.Chosen as S
+use Rattle.step.proofs.Chosen as S
 use Rattle.state.proofs.Retirement as R
 use Rattle.state.proofs.Retirement.Laws as R′
 use Rattle.state.proofs.Stepped as X
@@ -43,7 +43,7 @@ use Rattle.batch.proofs.run_batch.Proof.Entry.{Setting, costs-ref, cost
 module _ {M : Type 1} {𝓤 : URA M} {H : Heap 𝓤} {A : Atoms 𝓤} (Z : Setting 𝓤 H A) where
   open Setting Z using (W, mem, run, rs, ps, s, room)
 
-  -- what `step_chosen`'s triple binds outside, and that the caller has what it asks
+  -- what `cycles_060`'s triple binds outside, and that the caller has what it asks
   abbrev pub to-step : N Z → Step 𝓤 H A mem run .Ghost
   to-step t = ((tt, tt, tt, (t .c .chosen, (record-at Z t, tt)), (svals (t .c .chosen), (rvals (record-at Z t), tt))), tt)
 

@@ -12,7 +12,7 @@ use contract.Monad.{Fun, fact}
 use denote.Triple.Statement.{Contract}
 use denote.Triple.Clauses.{ensured, lasts}
 use denote.Triple.Spec.{tripleOf}
-use Rattle.batch.specs.declared.Chosen.{Chosen}
+use Rattle.step.specs.declared.Chosen.{Chosen}
 use Rattle.state.specs.declared.Retirement.{Retirement}
 use Rattle.state.specs.declared.Stepped.{Stepped}
 use Rattle.step.specs.Boards.{steppedOf}
@@ -24,7 +24,7 @@ use Rattle.batch.proofs.judge_batch as judge
 use Rattle.batch.proofs.begin as begin
 use Rattle.batch.proofs.finish as finish
 use Rattle.batch.proofs.pay as pay
-use Rattle.batch.proofs.step_chosen as step
+use Rattle.step.proofs.cycles_060 as step
 
 -- the contracts that the proof cites, and of `ensured` the clause alone
 module _ {M : Type 1} (𝓤 : URA M) (H : Heap 𝓤) (A : Atoms 𝓤) (mem : Memory → SProp 𝓤) (run : Routine → Fun 𝓤) where

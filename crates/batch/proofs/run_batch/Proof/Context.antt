@@ -17,7 +17,7 @@ use types.Share.{arr-parts}
 use denote.Memory.{pointee, shares}
 use denote.Slice.{sliceTy, at-slice, codedHoleys, heres}
 use denote.Index.{row}
-use Rattle.batch.proofs.Chosen.Laws as S′
+use Rattle.step.proofs.Chosen.Laws as S′
 use Rattle.state.proofs.Retirement as R
 use Rattle.state.proofs.Retirement.Laws as R′
 use Rattle.state.proofs.Stepped.Laws as X′

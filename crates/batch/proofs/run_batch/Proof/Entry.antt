@@ -23,12 +23,12 @@ use denote.Triple.Statement.{Triple}
 use denote.Triple.Entry.{Vals}
 use denote.Triple.Walked.{Stays, stay-none-slice, stay-slice, stay-none, walkOf}
 use denote.Exit.{yes}
-use Rattle.batch.specs.declared.Chosen.{Chosen}
+use Rattle.step.specs.declared.Chosen.{Chosen}
 use Rattle.state.specs.declared.Retirement.{Retirement}
 use Rattle.refusals.specs.declared.outcome.Ran.{Ran}
 use Rattle.batch.specs.declared.Judged.{Judged}
 use Rattle.batch.specs.Turning.{judgedBatchOf, seenChosen, finishOf}
-use Rattle.batch.proofs.Chosen as S
+use Rattle.step.proofs.Chosen as S
 use Rattle.state.proofs.Retirement as R
 use Rattle.batch.proofs.Run.{runs-within}
 use Rattle.batch.proofs.Loop.{Now, rec}
@@ -36,7 +36,7 @@ use Rattle.batch.proofs.judge_batch.Symbol.{name as #judge}
 use Rattle.batch.proofs.begin.Symbol.{name as #begin}
 use Rattle.batch.proofs.finish.Symbol.{name as #finish}
 use Rattle.batch.proofs.pay.Symbol.{name as #pay}
-use Rattle.batch.proofs.step_chosen.Symbol.{name as #step}
+use Rattle.step.proofs.cycles_060.Symbol.{name as #step}
 use Rattle.batch.proofs.run_batch as f
 use Rattle.batch.proofs.run_batch.Proof.Values.{svals}
 use Rattle.batch.proofs.run_batch.Proof.Cited.{Judge, Begin, Step, Pay, Finish}

@@ -17,8 +17,8 @@ use denote.Struct.Laws as LL
 use denote.Triple.Walked.{says, ends-at}
 use Rattle.refusals.specs.declared.outcome.Ran.{Ran}
 use Rattle.batch.specs.Batch.{batchOutcome, batchOf}
-use Rattle.batch.proofs.Chosen as S
-use Rattle.batch.proofs.Chosen.Laws as S′
+use Rattle.step.proofs.Chosen as S
+use Rattle.step.proofs.Chosen.Laws as S′
 use Rattle.refusals.proofs.outcome.Ran as D
 use Rattle.batch.proofs.Run.{ends-by}
 use Rattle.batch.proofs.Loop.{all-run}

@@ -32,8 +32,8 @@ use denote.Triple.Clauses.{ensured, lasts}
 use Rattle.state.specs.declared.Retirement.{Retirement}
 use Rattle.state.specs.declared.Stepped.{Stepped}
 use Rattle.batch.specs.declared.Carried.{Carried}
-use Rattle.batch.proofs.Chosen as S
-use Rattle.batch.proofs.Chosen.Laws as S′
+use Rattle.step.proofs.Chosen as S
+use Rattle.step.proofs.Chosen.Laws as S′
 use Rattle.state.proofs.Retirement as R
 use Rattle.state.proofs.Retirement.Laws as R′
 use Rattle.state.proofs.Stepped as X
@@ -42,7 +42,7 @@ use Rattle.batch.proofs.Carried as C
 use Rattle.batch.proofs.Carried.Laws as C′
 use Rattle.batch.proofs.Loop.{none, one-more, is-fewer, fewer, step-at, Paid, onward}
 use Rattle.batch.proofs.Again.{LentAgain, lends-again, comes-back}
-use Rattle.batch.proofs.step_chosen as step
+use Rattle.step.proofs.cycles_060 as step
 use Rattle.batch.proofs.pay as pay
 use Rattle.batch.proofs.run_batch.Code.Mir as code-mir
 use Rattle.batch.proofs.run_batch.Proof.Values.{rvals, state-told, stepped-told, told, offset-fits, next-fits}

@@ -8,13 +8,13 @@ use mir.Val.{Val}
 use denote.Laws.{Is}
 use denote.Slice.{Room}
 use denote.Struct.Laws as LL
-use Rattle.batch.specs.declared.Chosen.{Chosen}
+use Rattle.step.specs.declared.Chosen.{Chosen}
 use Rattle.state.specs.declared.Retirement.{Retirement}
 use Rattle.state.specs.declared.Stepped.{Stepped}
 use Rattle.batch.specs.declared.Carried.{Carried}
 use Rattle.batch.specs.declared.Judged.{Judged}
-use Rattle.batch.proofs.Chosen as S
-use Rattle.batch.proofs.Chosen.Laws as S′
+use Rattle.step.proofs.Chosen as S
+use Rattle.step.proofs.Chosen.Laws as S′
 use Rattle.state.proofs.Retirement as R
 use Rattle.state.proofs.Retirement.Laws as R′
 use Rattle.state.proofs.Stepped as X

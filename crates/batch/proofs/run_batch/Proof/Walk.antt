@@ -30,8 +30,8 @@ use denote.Triple.Entry.{onEntry}
 use Rattle.batch.specs.declared.Carried.{Carried}
 use Rattle.batch.specs.declared.Judged.{Judged}
 use Rattle.batch.specs.Turning.{beginOf}
-use Rattle.batch.proofs.Chosen as S
-use Rattle.batch.proofs.Chosen.Laws as S′
+use Rattle.step.proofs.Chosen as S
+use Rattle.step.proofs.Chosen.Laws as S′
 use Rattle.state.proofs.Retirement as R
 use Rattle.batch.proofs.Carried as C
 use Rattle.batch.proofs.Carried.Laws as C′

@@ -42,13 +42,13 @@ use denote.Triple.Spec.{tripleOf}
 use denote.Triple.Walked.{says, Stays, stay-none, gave-slice, walkOf, ends-at}
 use denote.Exit.{yes}
 use Rattle.state.specs.declared.Retirement.{Retirement}
-use Rattle.batch.specs.declared.Chosen.{Chosen}
+use Rattle.step.specs.declared.Chosen.{Chosen}
 use Rattle.refusals.specs.declared.outcome.Ran.{Ran}
 use Rattle.batch.specs.Batch.{batchOutcome, batchOf}
 use Rattle.state.proofs.Retirement as R
 use Rattle.state.proofs.Retirement.Laws as R′
-use Rattle.batch.proofs.Chosen as S
-use Rattle.batch.proofs.Chosen.Laws as S′
+use Rattle.step.proofs.Chosen as S
+use Rattle.step.proofs.Chosen.Laws as S′
 use Rattle.refusals.proofs.outcome.Ran as D
 use Rattle.refusals.proofs.outcome.Ran.Laws as D′
 use Rattle.batch.proofs.least as least
