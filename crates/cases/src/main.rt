@@ -9,6 +9,7 @@ ghost use mathlib.Core.Bool.{true};
 ghost use Prim.Native.Nat.{_+_, _*_, _≤_};
 ghost use lib.ListN.{length};
 use host::HostRan;
+use image::IMAGE_LENGTH;
 use libc::STDIN_FILENO;
 use libc::STDOUT_FILENO;
 use refusals::Ran;
@@ -127,9 +128,9 @@ fn zeros(bytes: &[u8], from: usize, to: usize) -> bool {
 }
 
 // An image, or the word for that of a fresh state: behind its header it holds zeros.
-fn print_image(image: [u8; 1288]) {
+fn print_image(image: [u8; IMAGE_LENGTH]) {
     let bytes: &[u8] = &image;
-    if zeros(bytes, 4, 1288) {
+    if zeros(bytes, 4, IMAGE_LENGTH) {
         io::write_all(STDOUT_FILENO, b" fresh");
     } else {
         print_hex(bytes);
@@ -189,6 +190,8 @@ fn start(image: &[u8], dirty: bool) -> Oep060Timing {
             ccr: true,
             mem: true,
             warm: true,
+            op: 65535,
+            address: 4294967295,
         };
         return Oep060Timing { cache, window };
     }
@@ -232,11 +235,11 @@ fn run_break(timing: Oep060Timing) -> Ran {
 // What a case gives: the numbers of its line, and the image of the next state.
 struct Done {
     ran: HostRan,
-    image: [u8; 1288],
+    image: [u8; IMAGE_LENGTH],
 }
 
 fn settle(ran: Ran) -> Done {
-    let mut image = [0u8; 1288];
+    let mut image = [0u8; IMAGE_LENGTH];
     let next = ran.timing;
     image::image_write(next, &mut image);
     let verdict = ran.verdict;
@@ -295,7 +298,7 @@ fn run_words(words: &[u32], places: &mut [u32], timing: Oep060Timing, number: u3
         &mut window,
         number,
     );
-    let mut image = [0u8; 1288];
+    let mut image = [0u8; IMAGE_LENGTH];
     host::timing_060_image_write_at(&tags, &state, &window, &mut image);
     Done { ran, image }
 }

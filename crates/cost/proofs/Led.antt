@@ -1,48 +1,32 @@
--- The window that a retirement leaves, by whether it is open: open it is the instruction's own, else it is shut. And its kind, by BRANCH.
+-- The window that a retirement leaves, by whether its instruction becomes the head: then it is its own, else it is shut. And its kind, by BRANCH.
 -- Assumes nothing.
-use mathlib.Core.Path.{_≡_, refl, sym, ap, _∙_}
-use mathlib.Core.Bool.{Bool, true, false, not, cond}
-use lib.Dec.{eqb}
-use Rattle.class_word.specs.Word.{has, classOf, BRANCH}
+use mathlib.Core.Path.{_≡_, refl, ap}
+use mathlib.Core.Bool.{Bool, true, false, cond}
+use Prim.Native.Nat.{ℕ}
+use Rattle.class_word.specs.Word.{has, BRANCH}
 use Rattle.window.specs.declared.dispatch.Instruction.{Instruction}
 use Rattle.window.specs.declared.dispatch.Controls.{Controls}
 use Rattle.window.specs.declared.Window.{Window}
 use Rattle.window.specs.Windows.{shut}
 use Rattle.cost.specs.declared.branch.Answer.{Answer}
 use Rattle.cost.specs.Retiring.{Point, branch, flow, neither, otherPoint, pointOf}
-use Rattle.cost.specs.Cost.{pairs, asHead, headOf, costBy, windowBy}
+use Rattle.cost.specs.Cost.{asHead, costBy, headsBy, windowBy}
 
-by-class : (i : Instruction) (k : Controls) (b : Bool) → cond (cond b shut (asHead i k) .opened) (asHead i k) shut ≡ cond b shut (asHead i k)
-by-class i k true = refl
-by-class i k false = refl
+-- where it is known whether it becomes the head
+module _ (x : Point) (op : ℕ) (i : Instruction) (k : Controls) (w : Window) where
+  pub led-open : headsBy x i k w ≡ true → windowBy x op i k w ≡ asHead op i k
+  led-open e = rw e
 
-by-pair : (i : Instruction) (k : Controls) (p b : Bool)
-    → cond (cond p shut (cond b shut (asHead i k)) .opened) (asHead i k) shut ≡ cond p shut (cond b shut (asHead i k))
-by-pair i k true b = refl
-by-pair i k false b = by-class i k b
+  pub led-shut : headsBy x i k w ≡ false → windowBy x op i k w ≡ shut
+  led-shut e = rw e
 
-by-kind : (x : Point) (i : Instruction) (k : Controls) (w : Window) → cond (windowBy x i k w .opened) (asHead i k) shut ≡ windowBy x i k w
-unfolding headOf
-by-kind branch i k w = refl
-by-kind flow i k w = refl
-by-kind neither i k w = by-pair i k (pairs i k w) (eqb (classOf (i .word .0)) 1)
-
--- where it is known whether it is open
-module _ (x : Point) (i : Instruction) (k : Controls) (w : Window) where
-  pub led-open : windowBy x i k w .opened ≡ true → windowBy x i k w ≡ asHead i k
-  led-open e = sym (by-kind x i k w) ∙ ap (λ (b : Bool). cond b (asHead i k) shut) e
-
-  pub led-shut : windowBy x i k w .opened ≡ false → windowBy x i k w ≡ shut
-  led-shut e = sym (by-kind x i k w) ∙ ap (λ (b : Bool). cond b (asHead i k) shut) e
-
-opened-by : (i : Instruction) (k : Controls) (b : Bool) → cond b shut (asHead i k) .opened ≡ not b
-opened-by i k true = refl
-opened-by i k false = refl
-
--- an instruction that joins no pair leaves the window open unless its class is 1
-pub head-opened : (i : Instruction) (k : Controls) → headOf i k .opened ≡ not (eqb (classOf (i .word .0)) 1)
-unfolding headOf
-head-opened i k = opened-by i k (eqb (classOf (i .word .0)) 1)
+  -- it is open there alone
+  pub led-opened : windowBy x op i k w .opened ≡ headsBy x i k w
+  led-opened = go (headsBy x i k w) refl
+    where
+      go : (b : Bool) → headsBy x i k w ≡ b → windowBy x op i k w .opened ≡ b
+      go true e = ap (λ (v : Window). v .opened) (led-open e)
+      go false e = ap (λ (v : Window). v .opened) (led-shut e)
 
 -- the kind of a retirement, once it is known whether it is a branch
 module _ (i : Instruction) (k : Controls) where

@@ -17,8 +17,9 @@ use Rattle.cost.specs.Retiring.{Retiring, branch, flow, neither, pointOf
 use Rattle.window.specs.Windows.{shut}
 use Rattle.window.specs.Dispatch.{passes}
 use Rattle.cost.specs.Branch.{takenOf, predictsTaken, staticCost, askedCost, branchCost}
-use Rattle.cost.specs.Cost.{flowCost, baseOf, pairs, costBy, windowBy, costOf, windowOf}
+use Rattle.cost.specs.Cost.{flowCost, baseOf, pairs, costBy, headsBy, costOf, windowOf}
 use Rattle.cost.specs.Free.{sound, joining, folding, free}
+use Rattle.cost.proofs.Led.{led-shut}
 use Rattle.cost.proofs.Sound.{base-least, passes-base, passes-unbranched, branch-fails}
 
 and-false : (b : Bool) → (b && false) ≡ false
@@ -65,7 +66,7 @@ module _ (i : Instruction) (k : Controls) (w : Window) (a : Answer) where
       go false p = ne-eqb (baseOf i k) 0 (λ z. omega (arith, base-least i k ok))
 
   shut-by : (b f : Bool) → (w .opened && ((not f && passes i k w) || (b && predictsTaken a && takenOf i k))) ≡ true
-      → windowBy (cond b branch (cond f flow neither)) i k w ≡ shut
+      → headsBy (cond b branch (cond f flow neither)) i k w ≡ false
   unfolding pairs
   shut-by true f e = refl
   shut-by false true e = refl
@@ -79,7 +80,10 @@ zero-exactly r ok =
 pub free-shuts : (r : Retiring) → free r ≡ true → windowOf r ≡ shut
 unfolding windowOf pointOf free
 free-shuts r e =
-    shut-by (r .instruction) (r .controls) (r .window) (r .answer) (has (r .instruction .word .0) BRANCH) (r .controls .flowed) e
+    let i = r .instruction in
+    let k = r .controls in
+    let w = r .window in
+    led-shut (pointOf i k) (r .op) i k w (shut-by i k w (r .answer) (has (i .word .0) BRANCH) (k .flowed) e)
 
 -- a retirement that costs nothing found the window open and shut it
 pub zero-shuts : (r : Retiring) → sound (r .instruction .word .0) ≡ true → costOf r ≡ 0

@@ -7,17 +7,20 @@
 --                             "plus 1 if indexed"
 --   pairs i k w           ==  it joins the head
 --                             "If the window is open and the dispatch test passes"
---   asHead i k            ==  the window with this instruction as head
---                             "the window becomes this instruction's"
---   headOf i k            ==  the window that it leaves if it joins none
---                             "unless its class is 1, which shuts it"
---   costBy, windowBy      ==  cost and next window, one line for each of document 01's three points
---   chargedBy             ==  the cost, and whether the next window is open
+--   asHead op i k         ==  the window with this instruction as head, its opcode and its ppc kept
+--                             "the window becomes this instruction's"; document 02, R-6: "The window keeps both"
+--   costBy, headsBy       ==  the cost, and whether the instruction becomes the head, one line for each of document
+--                             01's three points
+--                             "window shut .. Otherwise .. the window becomes this instruction's, unless its class is
+--                             1, which shuts it"
+--   windowBy              ==  the next window: the head's, or shut
+--   chargedBy             ==  the cost, and whether the instruction becomes the head
 --   costOf r, windowOf r  ==  what the retirement r costs, and the window that it leaves
 --
--- In `costBy` the base less 1 is 0 where the base is 0, as the Rust's `.max(0)` has it.
+-- In `costBy` the base less 1 is 0 where the base is 0, as the Rust's `.max(0)` has it. Neither it nor `headsBy` is
+-- given the opcode, nor looks at the window's `op` and `address`.
 use Prim.Native.Nat.{ℕ, _+_, _-_, max}
-use mathlib.Core.Bool.{Bool, true, cond, _&&_, _||_}
+use mathlib.Core.Bool.{Bool, true, false, not, cond, _&&_, _||_}
 use lib.Dec.{eqb}
 use lib.IntN.{ℤ}
 use Rattle.class_word.specs.Word.{
@@ -54,34 +57,36 @@ baseOf i k = plainOf (i .word .0) (k .raw .0) + cond (has (i .word .0) «EA_INDE
 unfoldable pub pairs : Instruction → Controls → Window → Bool
 pairs i k w = w .opened && passes i k w
 
-abbrev pub asHead : Instruction → Controls → Window
-asHead i k =
+abbrev pub asHead : ℕ → Instruction → Controls → Window
+asHead op i k =
     record {
       opened = true;
       defs = i .defs;
       ccr = has (i .word .0) «DEFINES_CCR»;
       mem = memory (i .word .0);
       warm = k .cached;
+      op = op;
+      address = k .ppc;
     }
-
-unfoldable pub headOf : Instruction → Controls → Window
-headOf i k = cond (eqb (classOf (i .word .0)) 1) shut (asHead i k)
 
 abbrev pub costBy : Point → Instruction → Controls → Window → Answer → ℕ
 costBy branch i k w a = branchCost (has (i .word .0) DBCC) (takenOf i k) (w .opened) a
 costBy flow i k w a = flowCost (k .raw .0)
 costBy neither i k w a = cond (pairs i k w) (baseOf i k - 1) (baseOf i k)
 
-abbrev pub windowBy : Point → Instruction → Controls → Window → Window
-windowBy branch i k w = shut
-windowBy flow i k w = shut
-windowBy neither i k w = cond (pairs i k w) shut (headOf i k)
+abbrev pub headsBy : Point → Instruction → Controls → Window → Bool
+headsBy branch i k w = false
+headsBy flow i k w = false
+headsBy neither i k w = not (pairs i k w) && not (eqb (classOf (i .word .0)) 1)
+
+abbrev pub windowBy : Point → ℕ → Instruction → Controls → Window → Window
+windowBy x op i k w = cond (headsBy x i k w) (asHead op i k) shut
 
 abbrev pub chargedBy : Point → Instruction → Controls → Window → Answer → Charged
-chargedBy x i k w a = record { cost = clocks (costBy x i k w a); heads = windowBy x i k w .opened }
+chargedBy x i k w a = record { cost = clocks (costBy x i k w a); heads = headsBy x i k w }
 
 unfoldable pub costOf : Retiring → ℕ
 costOf r = costBy (pointOf (r .instruction) (r .controls)) (r .instruction) (r .controls) (r .window) (r .answer)
 
 unfoldable pub windowOf : Retiring → Window
-windowOf r = windowBy (pointOf (r .instruction) (r .controls)) (r .instruction) (r .controls) (r .window)
+windowOf r = windowBy (pointOf (r .instruction) (r .controls)) (r .op) (r .instruction) (r .controls) (r .window)

@@ -118,8 +118,8 @@ pub fn charge_other(i: Instruction, k: Controls, w: Window) -> Charged
 }
 
 // The window with this instruction as head.
-pub fn as_head(i: Instruction, k: Controls) -> Window
-    ensures { λ r. ⌜ r ≡ asHead i k ⌝ }
+pub fn as_head(op: u16, i: Instruction, k: Controls) -> Window
+    ensures { λ r. ⌜ r ≡ asHead op i k ⌝ }
 {
     Window {
         opened: true,
@@ -127,5 +127,7 @@ pub fn as_head(i: Instruction, k: Controls) -> Window
         ccr: i.word.has(F_DEFINES_CCR),
         mem: window::memory(i.word),
         warm: k.cached,
+        op,
+        address: k.ppc,
     }
 }

@@ -1,11 +1,12 @@
--- Image writing and image reading, on lent numbers. Document 01, "Records and images". The Rust has none.
+-- Image writing and image reading, on lent numbers. Document 01, "Records and images", and document 02, R-6. The Rust
+-- has none.
 --
 --   HostImage               ==  what image writing returns, together with every lent byte afterwards; the state's
 --                               numbers are only looked at
 --   hostImage ran image     ==  these two
 --   hostImageOf o           ==  the same of the outcome of image writing: the count is the bytes written, the total 0
 --   imageWriteAtOf l image  ==  the image of the lent numbers l into the lent bytes image
---                               "Image writing answers 1,288 bytes written, or 0 if refused"
+--                               "Image writing answers 1,288 bytes written, or 0 if refused", which are 1,294 now
 --   HostState               ==  what image reading returns, together with every lent number afterwards
 --   hostState ran l         ==  these two
 --   hostStateOf o           ==  the same of the answer of image reading: count and total are 0

@@ -1,6 +1,7 @@
 pub mod Writing
 pub mod Refusals
 pub mod Bits
+pub mod WindowBack
 pub mod WrittenRead
 pub mod ReadWritten
 pub mod RoundTrip

@@ -13,8 +13,8 @@ use Rattle.image.specs.Bytes.{imageBytes}
 use Rattle.image.specs.Image.{imageOf}
 use Rattle.image.specs.Entries.{imageOutcome, imageWriteOf}
 
-pub image-written : (t : Oep060Timing) (lent : List ℕ) → 1288 ≤ length lent
+pub image-written : (t : Oep060Timing) (lent : List ℕ) → 1294 ≤ length lent
     → {d : List ℕ} → d ≡ putAt lent 0 (imageBytes (t .cache .tags) (t .cache .state) (seen (t .window)))
-    → imageOutcome (record { verdict = Accepted; written = 1288 }) d ≡ imageWriteOf t lent
+    → imageOutcome (record { verdict = Accepted; written = 1294 }) d ≡ imageWriteOf t lent
 unfolding imageWriteOf imageOf
 image-written t lent room e = simp (le-ltb _ _ room) (rw e)

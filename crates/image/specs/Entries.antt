@@ -1,19 +1,21 @@
--- Document 01, "Records and images": which images are refused, in the order of the table, and what image writing and
--- image reading give. The Rust has none.
+-- Document 01, "Records and images", and document 02, R-6: which images are refused, in the order of the table, and
+-- what image writing and image reading give. The Rust has none.
 --
+--   eitherLength s                  ==  s has 1,288 or 1,294 bytes
 --   imageVerdictOf s                ==  the verdict on an image
---                                       "Image reading: 8, 9, 10"; no row looks at tags or slots: "All slot bytes are
---                                       accepted"
+--                                       "Image reading: 8, 9, 10"; "8 if the length is neither 1,288 nor 1,294, 9 if
+--                                       the header doesn't match the length, and 10 .."; no row looks at tags or
+--                                       slots: "All slot bytes are accepted"
 --   ImageOutcome, imageOutcome r l  ==  what is returned, r, together with every lent byte afterwards, l
 --   imageWriteOf t lent             ==  the whole outcome of image writing
---                                       "under .. 1,288 bytes an image"; "Image writing answers 1,288 bytes written, or
---                                       0 if refused"; what lies beyond the image stays, and all lent bytes where it is
---                                       refused
+--                                       "7 below 1,294 bytes to write"; "Image writing answers 1,288 bytes written, or
+--                                       0 if refused", which are 1,294 now; what lies beyond the image stays, and all
+--                                       lent bytes where it is refused
 --   imageTimingBy v s               ==  the state that is read
 --                                       "Refused image reading returns a fresh state (zeros, window shut)"
 --   imageReadOf s                   ==  the whole answer of image reading
 use Prim.Native.Nat.{ℕ}
-use mathlib.Core.Bool.{not}
+use mathlib.Core.Bool.{Bool, not, _||_}
 use mathlib.Core.List.{List}
 use lib.Dec.{eqb, ltb}
 use lib.ListN.{length}
@@ -28,12 +30,15 @@ use Rattle.image.specs.Wrong.{headerWrong, windowWrong}
 use Rattle.image.specs.declared.ImageWritten.{ImageWritten}
 use Rattle.image.specs.declared.ImageRead.{ImageRead}
 use Rattle.image.specs.Image.{imageOf, imageStateOf}
-use Rattle.image.specs.ImageLayout.{imageLength}
+use Rattle.image.specs.ImageLayout.{oldLength, imageLength}
+
+abbrev pub eitherLength : List ℕ → Bool
+eitherLength s = eqb (length s) oldLength || eqb (length s) imageLength
 
 unfoldable pub imageVerdictOf : List ℕ → Verdict
 imageVerdictOf s =
     first
-    (not (eqb (length s) imageLength) ⇒ Refused ImageLength
+    (not (eitherLength s) ⇒ Refused ImageLength
     ⨾ headerWrong s ⇒ Refused ImageHeader
     ⨾ windowWrong s ⇒ Refused ImageWindow
     ⨾ otherwise Accepted)

@@ -1,4 +1,4 @@
-// Part 6 of document 01: the state as bytes.
+// Part 6 of document 01, and document 02's R-6: the state as bytes.
 //
 // Here are the places of an image's parts and the two entries: `image_write` looks at the room and has `write` put each
 // part; `image_read` judges the bytes in the order of the table and has `read` take each part. `host` and `replaying`
@@ -11,17 +11,26 @@ ghost use Prim.Native.Nat.{_≤_};
 ghost use lib.ListN.{length};
 ghost use Rattle.image.specs.Image.{imageStateOf};
 ghost use Rattle.image.specs.Entries.{imageVerdictOf, imageOutcome, imageWriteOf, imageReadOf};
-ghost use Rattle.image.specs.ImageLayout.{imageLength};
+ghost use mathlib.Core.Bool.{_||_};
+ghost use lib.Dec.{eqb};
+ghost use Rattle.image.specs.ImageLayout.{oldLength, imageLength};
 use branch_cache::BranchCache060;
 use refusals::Refusal;
 use refusals::Verdict;
 use state::Oep060Timing;
 
-pub const IMAGE_LENGTH: usize = 1288;
+pub const IMAGE_LENGTH: usize = 1294;
 
-const PAYLOAD: u16 = 1284;
+pub const KIND: u16 = 17;
 
-const KIND: u16 = 16;
+const PAYLOAD: u16 = 1290;
+
+// What was written before the head's opcode and address were kept: still read, with zeros for both.
+pub const OLD_LENGTH: usize = 1288;
+
+const OLD_KIND: u16 = 16;
+
+const OLD_PAYLOAD: u16 = 1284;
 
 // Where the parts of an image start.
 const TAGS: usize = 4;
@@ -33,6 +42,10 @@ const OPENED: usize = 1284;
 const DEFS: usize = 1285;
 
 const BITS: usize = 1287;
+
+const ADDRESS: usize = 1288;
+
+const OPCODE: usize = 1292;
 
 // What image writing answers.
 pub struct ImageWritten {
@@ -66,11 +79,21 @@ pub fn image_write(timing: Oep060Timing, out: &mut [u8]) -> ImageWritten
     }
 }
 
+// The length of an image of either kind.
+fn either_length(n: usize) -> bool
+    ensures { λ r. ⌜ r ≡ (eqb n oldLength || eqb n imageLength) ⌝ }
+{
+    if n == OLD_LENGTH {
+        return true;
+    }
+    n == IMAGE_LENGTH
+}
+
 // The first refusal of the table that holds.
 fn image_verdict(bytes: &[u8]) -> Verdict
     ensures { λ r. ⌜ r ≡ imageVerdictOf (now (bytes .entry)) ⌝ }
 {
-    if bytes.len() != IMAGE_LENGTH {
+    if !either_length(bytes.len()) {
         return Verdict::Refused(Refusal::ImageLength);
     }
     if read::header_wrong(bytes) {
@@ -83,7 +106,7 @@ fn image_verdict(bytes: &[u8]) -> Verdict
 }
 
 fn image_state(bytes: &[u8]) -> Oep060Timing
-    requires { ⌜ imageLength ≤ length (now bytes) ⌝ }
+    requires { ⌜ oldLength ≤ length (now bytes) ⌝ }
     ensures { λ r. ⌜ r ≡ imageStateOf (now (bytes .entry)) ⌝ }
 {
     let tags = read::image_tags(bytes);

@@ -5,11 +5,13 @@ ghost use lib.ListN.{length};
 ghost use Rattle.little_endian.specs.Numbers.{putAt, bytesOfEach};
 ghost use Rattle.bits.specs.Words.{num};
 ghost use Rattle.window.specs.Windows.{seen};
-ghost use Rattle.image.specs.Bytes.{bitsOf, headerBytes, windowBytes, imageBytes};
-ghost use Rattle.image.specs.ImageLayout.{imageLength, tagsPlace, slotsPlace, openPlace};
+ghost use Rattle.image.specs.Bytes.{bitsOf, headerBytes, windowBytes, headBytes, imageBytes};
+ghost use Rattle.image.specs.ImageLayout.{imageLength, tagsPlace, slotsPlace, openPlace, addressPlace};
+use crate::ADDRESS;
 use crate::BITS;
 use crate::DEFS;
 use crate::KIND;
+use crate::OPCODE;
 use crate::OPENED;
 use crate::PAYLOAD;
 use crate::SLOTS;
@@ -72,6 +74,14 @@ fn put_image_window(w: Window, out: &mut [u8])
     out[BITS] = bits_of(w);
 }
 
+fn put_image_head(w: Window, out: &mut [u8])
+    requires { ⌜ imageLength ≤ length (now out) ⌝ }
+    ensures { λ _. ⌜ now (out .exit) ≡ putAt (now (out .entry)) addressPlace (headBytes w) ⌝ }
+{
+    little_endian::put_u32(out, ADDRESS, w.address);
+    little_endian::put_u16(out, OPCODE, w.op);
+}
+
 // The image of a state, its parts one behind the other; bytes beyond it stay.
 pub fn put_image(tags: [u32; 256], slots: [u8; 256], given: Window, out: &mut [u8])
     // There is room: only `image_write` calls this, after its test of the room.
@@ -83,4 +93,5 @@ pub fn put_image(tags: [u32; 256], slots: [u8; 256], given: Window, out: &mut [u
     put_image_tags(tags, out);
     put_image_slots(slots, out);
     put_image_window(window, out);
+    put_image_head(window, out);
 }

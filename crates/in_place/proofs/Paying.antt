@@ -8,7 +8,6 @@ use Rattle.class_word.specs.declared.Clocks.{Clocks}
 use Rattle.class_word.specs.Word.{has, clocks, BRANCH, DBCC}
 use Rattle.branch_cache.specs.Cache.{cacheAt}
 use Rattle.window.specs.declared.dispatch.Instruction.{Instruction}
-use Rattle.window.specs.declared.dispatch.Controls.{Controls}
 use Rattle.window.specs.Windows.{shut}
 use Rattle.cost.specs.declared.branch.Answer.{Answer}
 use Rattle.cost.specs.declared.branch.Answer.the-variants.{NotConsulted}
@@ -16,6 +15,7 @@ use Rattle.cost.specs.declared.Charged.{Charged}
 use Rattle.cost.specs.Retiring.{otherPoint}
 use Rattle.cost.specs.Branch.{takenOf, branchCost}
 use Rattle.cost.specs.Cost.{asHead, chargedBy}
+use Rattle.state.specs.declared.Retirement.{Retirement}
 use Rattle.state.specs.Timing.{asked, askedOf, steppedBy}
 use Rattle.state.proofs.Stepping.{stepped-branch, stepped-open, stepped-shut}
 use Rattle.in_place.specs.WindowNumbers.{windowAt, numbersOf}
@@ -25,15 +25,15 @@ use Rattle.in_place.specs.Retire.{Paid, paid, paidOf}
 abbrev with-window : Clocks → List ℕ → List ℕ → List ℕ → Paid
 with-window n ts bs ns = paid n (lent ts bs ns)
 
-module _ (l : Lent) (i : Instruction) (k : Controls) {ns : List ℕ} where
-  pub paid-branch : has (i .word .0) BRANCH ≡ true → {a : Answer} {ts bs : List ℕ} → asked a (cacheAt ts bs) ≡ askedOf (cacheAt (l .tags) (l .state)) i k
-      → {n : Clocks} → n ≡ clocks (branchCost (has (i .word .0) DBCC) (takenOf i k) (windowAt (l .window) .opened) a) → ns ≡ numbersOf shut
-      → paid n (lent ts bs ns) ≡ paidOf (steppedBy (stateAt l) i k)
-  paid-branch b {ts = ts} {bs = bs} x {n} e q = ap (with-window n ts bs) q ∙ ap paidOf (stepped-branch (stateAt l) i k b x e)
+module _ (l : Lent) (i : Instruction) (r : Retirement) {ns : List ℕ} where
+  pub paid-branch : has (i .word .0) BRANCH ≡ true → {a : Answer} {ts bs : List ℕ} → asked a (cacheAt ts bs) ≡ askedOf (cacheAt (l .tags) (l .state)) i (r .controls)
+      → {n : Clocks} → n ≡ clocks (branchCost (has (i .word .0) DBCC) (takenOf i (r .controls)) (windowAt (l .window) .opened) a) → ns ≡ numbersOf shut
+      → paid n (lent ts bs ns) ≡ paidOf (steppedBy (stateAt l) i r)
+  paid-branch b {ts = ts} {bs = bs} x {n} e q = ap (with-window n ts bs) q ∙ ap paidOf (stepped-branch (stateAt l) i r b x e)
 
-  module _ {c : Charged} (no : has (i .word .0) BRANCH ≡ false) (e : c ≡ chargedBy (otherPoint k) i k (windowAt (l .window)) NotConsulted) where
-    pub paid-open : c .heads ≡ true → ns ≡ numbersOf (asHead i k) → paid (c .cost) (lent (l .tags) (l .state) ns) ≡ paidOf (steppedBy (stateAt l) i k)
-    paid-open b q = ap (with-window (c .cost) (l .tags) (l .state)) q ∙ ap paidOf (stepped-open (stateAt l) i k no e b)
+  module _ {c : Charged} (no : has (i .word .0) BRANCH ≡ false) (e : c ≡ chargedBy (otherPoint (r .controls)) i (r .controls) (windowAt (l .window)) NotConsulted) where
+    pub paid-open : c .heads ≡ true → ns ≡ numbersOf (asHead (r .op) i (r .controls)) → paid (c .cost) (lent (l .tags) (l .state) ns) ≡ paidOf (steppedBy (stateAt l) i r)
+    paid-open b q = ap (with-window (c .cost) (l .tags) (l .state)) q ∙ ap paidOf (stepped-open (stateAt l) i r no e b)
 
-    pub paid-shut : c .heads ≡ false → ns ≡ numbersOf shut → paid (c .cost) (lent (l .tags) (l .state) ns) ≡ paidOf (steppedBy (stateAt l) i k)
-    paid-shut b q = ap (with-window (c .cost) (l .tags) (l .state)) q ∙ ap paidOf (stepped-shut (stateAt l) i k no e b)
+    pub paid-shut : c .heads ≡ false → ns ≡ numbersOf shut → paid (c .cost) (lent (l .tags) (l .state) ns) ≡ paidOf (steppedBy (stateAt l) i r)
+    paid-shut b q = ap (with-window (c .cost) (l .tags) (l .state)) q ∙ ap paidOf (stepped-shut (stateAt l) i r no e b)

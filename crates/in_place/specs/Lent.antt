@@ -1,7 +1,7 @@
 -- The numbers that a host lends for a state. Document 01, "Where the Rust changes shape": "`Vec` slots become fixed
 -- arrays". The Rust: Oep060Timing. The numbers of a window are in WindowNumbers.
 --
---   Lent           ==  256 tags, the bytes of 256 slots, and the five numbers of a window
+--   Lent           ==  256 tags, the bytes of 256 slots, and the eight numbers of a window
 --   lent ts bs ns  ==  these three
 --   stateAt l      ==  the state that lent numbers stand for
 --   lentOf t       ==  the lent numbers that stand for the state t

@@ -60,7 +60,7 @@ fn retire(
     let charged = cost::charge_other(i, k, w);
     let clocks = charged.cost;
     if charged.heads {
-        windows::put_head(window, i, k);
+        windows::put_head(window, op, i, k);
     } else {
         shut_window(window);
     }

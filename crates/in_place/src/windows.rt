@@ -9,9 +9,10 @@ use window::Controls;
 use window::Instruction;
 use window::Window;
 
-pub const WINDOW_NUMBERS: usize = 5;
+pub const WINDOW_NUMBERS: usize = 8;
 
-// Open; the registers that the head defines; whether it defines the CCR, accesses memory, was cached.
+// Open; the registers that the head defines; whether it defines the CCR, accesses memory, was cached; its opcode; its
+// address, the low half first.
 pub type WindowNumbers = [u16; WINDOW_NUMBERS];
 
 pub fn window_at(ns: WindowNumbers) -> Window
@@ -23,6 +24,8 @@ pub fn window_at(ns: WindowNumbers) -> Window
         ccr: ns[2] != 0,
         mem: ns[3] != 0,
         warm: ns[4] != 0,
+        op: ns[5],
+        address: ns[6] as u32 + ns[7] as u32 * 65536,
     }
 }
 
@@ -35,6 +38,9 @@ pub fn put_window(window: &mut WindowNumbers, w: Window)
         number(w.ccr),
         number(w.mem),
         number(w.warm),
+        w.op,
+        (w.address % 65536) as u16,
+        (w.address / 65536) as u16,
     ];
 }
 
@@ -55,8 +61,8 @@ pub fn see_window(window: &mut WindowNumbers)
 }
 
 // The window with this instruction as head, as numbers: no struct is made on the way.
-pub fn put_head(window: &mut WindowNumbers, i: Instruction, k: Controls)
-    ensures { λ _. ⌜ now (window .exit) ≡ numbersOf (asHead i k) ⌝ }
+pub fn put_head(window: &mut WindowNumbers, op: u16, i: Instruction, k: Controls)
+    ensures { λ _. ⌜ now (window .exit) ≡ numbersOf (asHead op i k) ⌝ }
 {
     *window = [
         1,
@@ -64,5 +70,8 @@ pub fn put_head(window: &mut WindowNumbers, i: Instruction, k: Controls)
         number(i.word.has(F_DEFINES_CCR)),
         number(window::memory(i.word)),
         number(k.cached),
+        op,
+        (k.ppc % 65536) as u16,
+        (k.ppc / 65536) as u16,
     ];
 }

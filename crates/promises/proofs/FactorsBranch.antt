@@ -6,6 +6,7 @@ use mathlib.Core.Bool.{Bool, true, false, true≢false, cond}
 use mathlib.Core.Option.{none, some}
 use Rattle.class_word.specs.Word.{clocks, has, BRANCH}
 use Rattle.window.specs.declared.dispatch.Instruction.{Instruction}
+use Rattle.window.specs.Windows.{unnamed}
 use Rattle.profile.specs.declared.Profile.{Profile}
 use Rattle.profile.specs.Profile.{profileOf}
 use Rattle.state.specs.declared.Oep060Timing.{Oep060Timing}
@@ -14,7 +15,7 @@ use Rattle.step.specs.Boards.{steppedOf}
 use Rattle.promises.specs.Factors.{BranchFactors, Factors, factorsOf, branchFactorsOf, coarse, ofBranch, SameChange, SameStep}
 use Rattle.promises.proofs.FactorsCost.{costFrom, windowFrom}
 use Rattle.promises.proofs.FactorsCache.{byteFrom, changed}
-use Rattle.promises.proofs.FactorsStep.{costOn, windowOn, byteOn, step-cost, step-window, step-cache, change-by, slots-by}
+use Rattle.promises.proofs.FactorsStep.{costOn, windowOn, byteOn, step-cost, step-window, step-cache, change-by, whole-by, slots-by}
 
 module _ (i : Instruction) (f : Factors) (x : BranchFactors) where
   branch-cost : (b : Bool) → b ≡ true → costFrom i (coarse f) (cond b (some x) none) ≡ costFrom i (ofBranch f) (cond b (some x) none)
@@ -39,7 +40,7 @@ module _ (P : Profile) (t : Oep060Timing) (r : Retirement) (h : Branches P (r .o
   b-cost : steppedOf P t r .cost ≡ costOn P (ofBranch (factorsOf P t r))
   b-cost = step-cost P t r ∙ ap clocks (branch-cost (profileOf P (r .op)) (factorsOf P t r) x _ h)
 
-  b-window : steppedOf P t r .timing .window ≡ windowOn P (ofBranch (factorsOf P t r))
+  b-window : unnamed (steppedOf P t r .timing .window) ≡ windowOn P (ofBranch (factorsOf P t r))
   b-window = step-window P t r ∙ branch-window (profileOf P (r .op)) (factorsOf P t r) x _ h
 
   b-cache : steppedOf P t r .timing .cache ≡ changed (t .cache) (r .controls .ppc) (byteOn P (ofBranch (factorsOf P t r)))
@@ -54,11 +55,15 @@ module _ (P : Profile) (t t' : Oep060Timing) (r r' : Retirement) (h : Branches P
       change-by P t t' r r' (byteOn P (ofBranch (factorsOf P t' r')))
       (b-cache P t r h ∙ ap (λ (f : Factors). changed (t .cache) (r .controls .ppc) (byteOn P f)) e) (b-cache P t' r' h')
 
+  b-same : unnamed (steppedOf P t r .timing .window) ≡ unnamed (steppedOf P t' r' .timing .window)
+  b-same = b-window P t r h ∙ ap (windowOn P) e ∙ sym (b-window P t' r' h')
+
   pub same-branch : SameStep P t t' r r'
   same-branch =
       record {
         cost = b-cost P t r h ∙ ap (costOn P) e ∙ sym (b-cost P t' r' h');
-        window = b-window P t r h ∙ ap (windowOn P) e ∙ sym (b-window P t' r' h');
+        window = b-same;
+        whole = whole-by P t t' r r' (ap (λ (f : Factors). f .op) e) b-same;
         cache = b-change;
         slots = slots-by P t t' r r' b-change;
       }

@@ -12,14 +12,14 @@ use Rattle.branch_cache.specs.Cache.{cachePredictOf}
 use Rattle.window.specs.declared.dispatch.Instruction.{Instruction}
 use Rattle.window.specs.declared.dispatch.Controls.{Controls}
 use Rattle.window.specs.declared.Window.{Window}
-use Rattle.window.specs.Windows.{shut, seen}
+use Rattle.window.specs.Windows.{shut, seen, unnamed}
 use Rattle.window.specs.Dispatch.{memory, isSimple, lateCcr, secondMemory}
 use Rattle.window.proofs.Rules.{passes-and}
 use Rattle.cost.specs.declared.branch.Answer.{Answer}
 use Rattle.cost.specs.declared.branch.Answer.the-variants.{NotConsulted}
 use Rattle.cost.specs.Retiring.{branch, flow, neither, otherPoint, pointOf}
 use Rattle.cost.specs.Branch.{takenOf, branchCost}
-use Rattle.cost.specs.Cost.{plainOf, baseOf, pairs, headOf, costBy, windowBy, costOf, windowOf}
+use Rattle.cost.specs.Cost.{plainOf, baseOf, pairs, asHead, costBy, headsBy, windowBy, costOf, windowOf}
 use Rattle.cost.proofs.Seen.{seen-cost, seen-window}
 use Rattle.profile.specs.declared.Profile.{Profile}
 use Rattle.profile.specs.Profile.{profileOf}
@@ -41,10 +41,18 @@ joinsBy i f =
 abbrev baseBy : Instruction → Factors → ℕ
 baseBy i f = cond (has (i .word .0) VARIABLE || has (i .word .0) UNCLASSIFIED) (f .fallback) (clocksOf (i .word .0)) + cond (has (i .word .0) «EA_INDEXED») 1 0
 
+-- the head without its opcode and address
 abbrev headBy : Instruction → Factors → Window
 headBy i f =
-    cond (eqb (classOf (i .word .0)) 1) shut
-    (record { opened = true; defs = i .defs; ccr = has (i .word .0) «DEFINES_CCR»; mem = memory (i .word .0); warm = f .cached })
+    record {
+      opened = true;
+      defs = i .defs;
+      ccr = has (i .word .0) «DEFINES_CCR»;
+      mem = memory (i .word .0);
+      warm = f .cached;
+      op = 0;
+      address = 0;
+    }
 
 abbrev pub takenBy : Instruction → Factors → BranchFactors → Bool
 takenBy i f b = cond (has (i .word .0) DBCC) (not (b .through)) (f .flowed)
@@ -59,7 +67,7 @@ costFrom i f none = cond (f .flowed) (max (f .fallback) 5) (cond (joinsBy i f) (
 costFrom i f (some b) = branchCost (has (i .word .0) DBCC) (takenBy i f b) (f .opened) (answerBy f b)
 
 abbrev pub windowFrom : Instruction → Factors → Option BranchFactors → Window
-windowFrom i f none = cond (f .flowed) shut (cond (joinsBy i f) shut (headBy i f))
+windowFrom i f none = cond (not (f .flowed) && (not (joinsBy i f) && not (eqb (classOf (i .word .0)) 1))) (headBy i f) shut
 windowFrom i f (some b) = shut
 
 -- ---- of a retirement these are its cost and its window
@@ -96,10 +104,18 @@ module _ (P : Profile) (t : Oep060Timing) (r : Retirement) where
   other-cost true a = refl
   other-cost false a = ap (λ (p : Bool). cond p (baseOf i k - 1) (baseOf i k)) joins-is
 
-  other-window : (f : Bool) → windowBy (cond f flow neither) i k w ≡ cond f shut (cond (joinsBy i F) shut (headBy i F))
-  unfolding headOf
+  -- whether it becomes the head, and the window that it leaves then
+  heads-by : (b : Bool) → unnamed (cond b (asHead (r .op) i k) shut) ≡ cond b (headBy i F) shut
+  heads-by true = refl
+  heads-by false = refl
+
+  other-window : (f : Bool)
+      → unnamed (windowBy (cond f flow neither) (r .op) i k w)
+      ≡ cond (not f && (not (joinsBy i F) && not (eqb (classOf (i .word .0)) 1))) (headBy i F) shut
   other-window true = refl
-  other-window false = ap (λ (p : Bool). cond p shut (headOf i k)) joins-is
+  other-window false =
+      heads-by (headsBy neither i k w)
+      ∙ ap (λ (p : Bool). cond (not p && not (eqb (classOf (i .word .0)) 1)) (headBy i F) shut) joins-is
 
   abbrev answer : Answer
   answer = answerOf crateCache (t .cache) i k
@@ -112,15 +128,15 @@ module _ (P : Profile) (t : Oep060Timing) (r : Retirement) where
       branchCost (has (i .word .0) DBCC) (takenOf i k) (w .opened) (cond (b && (k .ebc && k .cached)) (heard (cachePredictOf (t .cache) (k .ppc))) NotConsulted)) e
   cost-by false e = other-cost (k .flowed) answer
 
-  window-by : (b : Bool) → windowBy (cond b branch (otherPoint k)) i k w ≡ windowFrom i F (cond b (some (branchFactorsOf (t .cache) k)) none)
+  window-by : (b : Bool) → unnamed (windowBy (cond b branch (otherPoint k)) (r .op) i k w) ≡ windowFrom i F (cond b (some (branchFactorsOf (t .cache) k)) none)
   window-by true = refl
   window-by false = other-window (k .flowed)
 
   -- a shut window is stepped as it is read
-  pub cost-is : costOf (asMet crateCache (stateOf t) i k) ≡ costFrom i F (F .branch)
+  pub cost-is : costOf (asMet crateCache (stateOf t) i r) ≡ costFrom i F (F .branch)
   unfolding costOf pointOf
-  cost-is = sym (seen-cost i k (t .window) answer) ∙ cost-by (has (i .word .0) BRANCH) refl
+  cost-is = sym (seen-cost (r .op) i k (t .window) answer) ∙ cost-by (has (i .word .0) BRANCH) refl
 
-  pub window-is : windowOf (asMet crateCache (stateOf t) i k) ≡ windowFrom i F (F .branch)
+  pub window-is : unnamed (windowOf (asMet crateCache (stateOf t) i r)) ≡ windowFrom i F (F .branch)
   unfolding windowOf pointOf
-  window-is = sym (seen-window i k (t .window) answer) ∙ window-by (has (i .word .0) BRANCH)
+  window-is = ap unnamed (sym (seen-window (r .op) i k (t .window) answer)) ∙ window-by (has (i .word .0) BRANCH)

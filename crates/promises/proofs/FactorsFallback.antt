@@ -7,6 +7,7 @@ use mathlib.Core.Option.{Option, none, some}
 use native.Mathlib.Omega.{arith}
 use Rattle.class_word.specs.Word.{has, VARIABLE, UNCLASSIFIED, clocksOf, «EA_INDEXED»}
 use Rattle.window.specs.declared.dispatch.Instruction.{Instruction}
+use Rattle.window.specs.Windows.{unnamed}
 use Rattle.profile.specs.declared.Profile.{Profile}
 use Rattle.profile.specs.Profile.{profileOf}
 use Rattle.state.specs.declared.Oep060Timing.{Oep060Timing}
@@ -54,7 +55,7 @@ module _ (P : Profile) (t t' : Oep060Timing) (r r' : Retirement) (e : withFallba
   abbrev G' : Factors
   G' = withFallback (coarse (factorsOf P t' r')) 0
 
-  pub f-window : steppedOf P t r .timing .window ≡ steppedOf P t' r' .timing .window
+  pub f-window : unnamed (steppedOf P t r .timing .window) ≡ unnamed (steppedOf P t' r' .timing .window)
   f-window =
       step-window P t r ∙ window-with (profileOf P (r .op)) (coarse (factorsOf P t r)) (factorsOf P t r .branch) ∙ ap (windowOn P) e ∙ sym (window-with (profileOf P (r' .op)) (coarse (factorsOf P t' r')) (factorsOf P t' r' .branch)) ∙ sym (step-window P t' r')
 

@@ -11,6 +11,9 @@ pub mod Demand
 pub mod DeterminedWords
 pub mod DeterminedEvents
 pub mod Images
+pub mod OldReader
+pub mod Unnamed
+pub mod Heads
 pub mod Traces
 pub mod DeterminedRuns
 pub mod Batches

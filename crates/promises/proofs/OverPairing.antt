@@ -25,8 +25,8 @@ use Rattle.window.specs.declared.Window.{Window}
 use Rattle.window.specs.Dispatch.{passes, isSimple, holds, failing, firstFailing}
 use Rattle.window.proofs.Rules.{passes-all}
 use Rattle.cost.specs.Retiring.{pointOf}
-use Rattle.cost.specs.Cost.{pairs, headOf, windowOf}
-use Rattle.cost.proofs.Led.{led-open}
+use Rattle.cost.specs.Cost.{pairs, windowOf}
+use Rattle.cost.proofs.Led.{led-open, led-opened}
 use Rattle.profile.specs.declared.Profile.the-variants.{Crate, Mended}
 use Rattle.profile.specs.Profile.{profileOf}
 use Rattle.state.specs.declared.Retirement.{Retirement}
@@ -60,7 +60,9 @@ module _ (s : State crateCache) (h f : Retirement) (x : OverPairs Mended s h f) 
   -- the open window is the head's
   head-defs : w .defs ≡ j .defs
   unfolding windowOf
-  head-defs = ap (λ (v : Window). v .defs) (led-open (pointOf j (h .controls)) j (h .controls) (s .window) (and-left (w .opened) (passes i (f .controls) w) parts))
+  head-defs =
+      let heads = sym (led-opened (pointOf j (h .controls)) (h .op) j (h .controls) (s .window)) ∙ and-left (w .opened) (passes i (f .controls) w) parts in
+      ap (λ (v : Window). v .defs) (led-open (pointOf j (h .controls)) (h .op) j (h .controls) (s .window) heads)
 
   passed : passes i (f .controls) w ≡ true
   passed = and-right (w .opened) (passes i (f .controls) w) parts
@@ -94,7 +96,7 @@ cachedAt op ppc =
     }
 
 pub crate-over-pairs : (s : State crateCache) → s .window .opened ≡ false → OverPairs Crate s (cachedAt 0xB141 0x1000) (cachedAt 0x3401 0x1002)
-unfolding formOf matches classifyOf group11 move ea setsOf dyadicSets operandSets registerOperand maskOfRegs windowOf pointOf pairs headOf failing firstFailing holds isSimple
+unfolding formOf matches classifyOf group11 move ea setsOf dyadicSets operandSets registerOperand maskOfRegs windowOf pointOf pairs failing firstFailing holds isSimple
 crate-over-pairs s shut =
     record {
       headValid = refl;

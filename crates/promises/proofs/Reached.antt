@@ -16,7 +16,7 @@ use Rattle.cost.specs.Branch.{takenOf}
 use Rattle.cost.specs.Retiring.{Retiring, pointOf}
 use Rattle.window.specs.Windows.{shut}
 use Rattle.window.specs.Dispatch.{failing, firstFailing, holds, isSimple}
-use Rattle.cost.specs.Cost.{costOf, windowOf, pairs, headOf, plainOf, baseOf}
+use Rattle.cost.specs.Cost.{costOf, windowOf, pairs, plainOf, baseOf}
 use Rattle.state.specs.declared.Retirement.{Retirement}
 use Rattle.state.specs.declared.Event.{Event}
 use Rattle.state.specs.declared.Event.the-variants.{Retired}
@@ -30,34 +30,35 @@ moveq d = record { word = info 0x0404; uses = 0; defs = d }
 abbrev pub calm : Controls
 calm = record { flowed = false; cached = true; ess = true; ebc = true; supervisor = true; ppc = 0; pc = 2; raw = record { 0 = pos 4 } }
 
--- the window that MOVEQ into D0 opens
-abbrev pub opened₀ : Window
-opened₀ = record { opened = true; defs = 1; ccr = true; mem = false; warm = true }
+-- the window that MOVEQ into D0 opens, of this opcode
+abbrev pub opened₀ : ℕ → Window
+opened₀ op = record { opened = true; defs = 1; ccr = true; mem = false; warm = true; op = op; address = 0 }
 
-abbrev met : Instruction → Window → Answer → Retiring
-met i w a = record { instruction = i; controls = calm; window = w; answer = a }
+abbrev met : ℕ → Instruction → Window → Answer → Retiring
+met op i w a = record { op = op; instruction = i; controls = calm; window = w; answer = a }
 
-head-cost : (a : Answer) → costOf (met (moveq 1) shut a) ≡ 1
-unfolding costOf pointOf pairs baseOf plainOf
-head-cost a = refl
+module _ (op₀ op₁ : ℕ) (a : Answer) where
+  head-cost : costOf (met op₀ (moveq 1) shut a) ≡ 1
+  unfolding costOf pointOf pairs baseOf plainOf
+  head-cost = refl
 
-head-opens : (a : Answer) → windowOf (met (moveq 1) shut a) ≡ opened₀
-unfolding windowOf pointOf pairs headOf
-head-opens a = refl
+  head-opens : windowOf (met op₀ (moveq 1) shut a) ≡ opened₀ op₀
+  unfolding windowOf pointOf pairs
+  head-opens = refl
 
-tail-cost : (a : Answer) → costOf (met (moveq 2) opened₀ a) ≡ 0
-unfolding costOf pointOf pairs baseOf plainOf failing firstFailing holds isSimple
-tail-cost a = refl
+  tail-cost : costOf (met op₁ (moveq 2) (opened₀ op₀) a) ≡ 0
+  unfolding costOf pointOf pairs baseOf plainOf failing firstFailing holds isSimple
+  tail-cost = refl
 
-tail-shuts : (a : Answer) → windowOf (met (moveq 2) opened₀ a) ≡ shut
-unfolding windowOf pointOf pairs failing firstFailing holds isSimple
-tail-shuts a = refl
+  tail-shuts : windowOf (met op₁ (moveq 2) (opened₀ op₀) a) ≡ shut
+  unfolding windowOf pointOf pairs failing firstFailing holds isSimple
+  tail-shuts = refl
 
 module _ (B : Board) (op₀ op₁ : ℕ) (e₀ : B .profile op₀ ≡ moveq 1) (e₁ : B .profile op₁ ≡ moveq 2) where
   -- the two kinds of turn: `false` from a shut window, `true` from the one that D0's MOVEQ opened
   abbrev pub window : Bool → Window
   window false = shut
-  window true = opened₀
+  window true = opened₀ op₀
 
   abbrev op : Bool → ℕ
   op false = op₀
@@ -78,16 +79,16 @@ module _ (B : Board) (op₀ op₁ : ℕ) (e₀ : B .profile op₀ ≡ moveq 1) (
   start c b = record { cache = c; window = window b }
 
   costs-price : (c : B .rule .Cache) (b : Bool) → costOf (retiringOf B (start c b) (event b)) ≡ price b
-  costs-price c false = ap (λ (i : Instruction). costOf (met i shut (answerOf (B .rule) c i calm))) e₀ ∙ head-cost _
-  costs-price c true = ap (λ (i : Instruction). costOf (met i opened₀ (answerOf (B .rule) c i calm))) e₁ ∙ tail-cost _
+  costs-price c false = ap (λ (i : Instruction). costOf (met op₀ i shut (answerOf (B .rule) c i calm))) e₀ ∙ head-cost op₀ op₁ _
+  costs-price c true = ap (λ (i : Instruction). costOf (met op₁ i (opened₀ op₀) (answerOf (B .rule) c i calm))) e₁ ∙ tail-cost op₀ op₁ _
 
-  abbrev later : B .rule .Cache → Window → Instruction → State (B .rule)
-  later c w i = record { cache = cacheAfter (B .rule) c i calm; window = windowOf (met i w (answerOf (B .rule) c i calm)) }
+  abbrev later : B .rule .Cache → ℕ → Window → Instruction → State (B .rule)
+  later c op w i = record { cache = cacheAfter (B .rule) c i calm; window = windowOf (met op i w (answerOf (B .rule) c i calm)) }
 
   turns : (c : B .rule .Cache) (b : Bool) → after B (start c b) (Retired (event b)) ≡ start c (not b)
   unfolding cacheAfter
-  turns c false = ap (later c shut) e₀ ∙ ap (λ (w : Window). record { cache = c; window = w }) (head-opens _)
-  turns c true = ap (later c opened₀) e₁ ∙ ap (λ (w : Window). record { cache = c; window = w }) (tail-shuts _)
+  turns c false = ap (later c op₀ shut) e₀ ∙ ap (λ (w : Window). record { cache = c; window = w }) (head-opens op₀ op₁ _)
+  turns c true = ap (later c op₁ (opened₀ op₀)) e₁ ∙ ap (λ (w : Window). record { cache = c; window = w }) (tail-shuts op₀ op₁ _)
 
   pub counted : (n : ℕ) (b : Bool) (s : State (B .rule)) → length (retirements B s (moveqs b n)) ≡ n
   unfolding retirements

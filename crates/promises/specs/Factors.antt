@@ -1,8 +1,9 @@
 -- What one retirement can be told apart by, its factors: the opcode; the five flags; of the window whether it is open,
 -- which registers of its def mask the follower touches, CCR, memory, cached; of the raw count what the fallback makes
 -- of it; and of a branch the slot's byte, whether its tag is equal, and whether pc is ppc + 4. Two retirements with
--- equal factors cost the same, leave the same window, and do the same to the cache, each at its own address; at one
--- address the states then differ only where they differed before.
+-- equal factors cost the same, leave the same window, read without its head's opcode and address, and do the same to
+-- the cache, each at its own address; at one address the windows are the same whole, and the states then differ only
+-- where they differed before.
 --
 -- In each, p is the profile.
 --   Factors                 ==  the factors, in this order
@@ -22,7 +23,8 @@
 --   charged form n          ==  the cost of this form, the fallback being n
 --   holding c ppc byte      ==  the cache c with this byte, under the tag ppc, in the slot that ppc goes to
 --   SameChange p t t' r r'  ==  what r does to the cache of t, r' does to that of t'
---   SameStep p t t' r r'    ==  r in t and r' in t' cost the same, leave the same window, and do the same to the cache
+--   SameStep p t t' r r'    ==  r in t and r' in t' cost the same, leave the same window, read without its head's
+--                               opcode and address, and do the same to the cache
 --   EqualFactors p          ==  the facts, each for every two states and retirements
 --
 -- `InRange t` says what the code's types hold always: arrays of 256 elements, and numbers that fit.
@@ -38,7 +40,7 @@ use Rattle.branch_cache.specs.Cache.{slotAt, slotPut, slotOf}
 use Rattle.window.specs.declared.dispatch.Instruction.{Instruction}
 use Rattle.window.specs.declared.dispatch.Controls.{Controls}
 use Rattle.window.specs.declared.Window.{Window}
-use Rattle.window.specs.Windows.{seen}
+use Rattle.window.specs.Windows.{seen, unnamed}
 use Rattle.window.specs.Raw.{fallbackOf}
 use Rattle.profile.specs.declared.Profile.{Profile}
 use Rattle.profile.specs.Profile.{profileOf}
@@ -159,11 +161,14 @@ pub data SameChange (p : Profile) (t t' : Oep060Timing) (r r' : Retirement) : Ty
 pub record SameStep (p : Profile) (t t' : Oep060Timing) (r r' : Retirement) : Type 0 where
   -- they cost the same
   pub cost : steppedOf p t r .cost ≡ steppedOf p t' r' .cost
-  -- and leave the same window
-  pub window : steppedOf p t r .timing .window ≡ steppedOf p t' r' .timing .window
+  -- and leave the same window, read without the head's opcode and address
+  pub window : unnamed (steppedOf p t r .timing .window) ≡ unnamed (steppedOf p t' r' .timing .window)
   -- both caches stay, or get the same byte
   pub cache : SameChange p t t' r r'
-  -- of two at one address: slots that were equal stay equal, so that the states differ only where they differed before
+  -- of two at one address: the windows are the same whole
+  pub whole : r .controls .ppc ≡ r' .controls .ppc
+      → steppedOf p t r .timing .window ≡ steppedOf p t' r' .timing .window
+  -- and slots that were equal stay equal, so that the states differ only where they differed before
   pub slots : r .controls .ppc ≡ r' .controls .ppc → InRange t → InRange t' → (n : ℕ)
       → slotAt (t .cache) n ≡ slotAt (t' .cache) n
       → slotAt (steppedOf p t r .timing .cache) n ≡ slotAt (steppedOf p t' r' .timing .cache) n
@@ -186,4 +191,5 @@ pub record EqualFactors (p : Profile) : Type 0 where
   -- and enters nothing else
   pub equalButFallback : (t t' : Oep060Timing) (r r' : Retirement)
       → withFallback (coarse (factorsOf p t r)) 0 ≡ withFallback (coarse (factorsOf p t' r')) 0
-      → (steppedOf p t r .timing .window ≡ steppedOf p t' r' .timing .window) × SameChange p t t' r r'
+      → (unnamed (steppedOf p t r .timing .window) ≡ unnamed (steppedOf p t' r' .timing .window))
+      × SameChange p t t' r r'

@@ -10,6 +10,8 @@
 --   Traces       ==  what holds of every run of a trace
 --   Batches      ==  what holds of every batch
 --   Images       ==  what holds of every state image
+--   OldReader    ==  the reader of images before kind 17, and what it meets
+--   Heads        ==  what holds of the head's opcode and address
 --   OverPairing  ==  a pair whose follower touches what its head writes
 --   Profiles     ==  what holds of the mended profile beside the crate's
 --   Determined   ==  one answer at each input
@@ -24,6 +26,8 @@ pub mod Moving
 pub mod Traces
 pub mod Batches
 pub mod Images
+pub mod OldReader
+pub mod Heads
 pub mod OverPairing
 pub mod Profiles
 pub mod Determined

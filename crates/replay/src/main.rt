@@ -11,8 +11,8 @@ use profile::Profile;
 use replaying::REPLAY_ROOM;
 
 fn replay(profile: Profile) {
-    // An image, the longest trace, and one byte more, so that longer input is seen to be longer.
-    let mut bytes = [0u8; 66825];
+    // The longer image, the longest trace, and one byte more, so that longer input is seen to be longer.
+    let mut bytes = [0u8; 66831];
     let came = input::read_input(&mut bytes);
     match came {
         Input::Unreadable => {

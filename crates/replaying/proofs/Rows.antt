@@ -62,8 +62,8 @@ pub record Rows (bytes out₀ : List ℕ) (start : ℕ) (out : List ℕ) (place 
 pub rows-start : (bytes out : List ℕ) (start : ℕ) → Rows bytes out start out start 0
 rows-start bytes out start = record { inside = omega arith; same = refl; at = omega arith; leads = refl }
 
-module _ {bytes out₀ : List ℕ} {start : ℕ} {out : List ℕ} {place row : ℕ} (g : Rows bytes out₀ start out place row) (long : length bytes ≡ 1288)
-    (room : start + 2617 ≤ length out₀) where
+module _ {bytes out₀ : List ℕ} {start : ℕ} {out : List ℕ} {place row : ℕ} (g : Rows bytes out₀ start out place row) (long : length bytes ≡ 1294)
+    (room : start + 2629 ≤ length out₀) where
   pub rows-next : row < 40 → {place′ : ℕ} {out′ : List ℕ}
       → written place′ out′ ≡ writtenOf out place (hexBytesOf (take 32 (drop (32 * row) bytes)) ++ newline)
       → Rows bytes out₀ start out′ place′ (row + 1)
@@ -91,16 +91,16 @@ module _ {bytes out₀ : List ℕ} {start : ℕ} {out : List ℕ} {place row : �
   -- the count is asked for by itself, so that another one is refused there
   pub rows-end : 40 ≤ row → {place′ n : ℕ} {out′ : List ℕ}
       → written place′ out′ ≡ writtenOf out place (hexBytesOf (take n (drop 1280 bytes)) ++ newline)
-      → n ≡ 8
+      → n ≡ 14
       → written place′ out′ ≡ writtenOf out₀ start (hexRows 41 bytes)
   unfolding hexRows
   rows-end h e q =
       let i = g .inside in
       let r : row ≡ 40 = omega arith in
-      let l : length (drop 1280 bytes) ≡ 8 = length-drop 1280 bytes ∙ omega arith in
-      let a : take 8 (drop 1280 bytes) ≡ drop 1280 bytes = take-all 8 (drop 1280 bytes) (omega arith) in
+      let l : length (drop 1280 bytes) ≡ 14 = length-drop 1280 bytes ∙ omega arith in
+      let a : take 14 (drop 1280 bytes) ≡ drop 1280 bytes = take-all 14 (drop 1280 bytes) (omega arith) in
       let b : take 32 (drop 1280 bytes) ≡ drop 1280 bytes = take-all 32 (drop 1280 bytes) (omega arith) in
-      let c : hexRows 1 (drop 1280 bytes) ≡ hexBytesOf (take 8 (drop 1280 bytes)) ++ newline = rw (a, b) (append-nil _) in
+      let c : hexRows 1 (drop 1280 bytes) ≡ hexBytesOf (take 14 (drop 1280 bytes)) ++ newline = rw (a, b) (append-nil _) in
       (rw q at e) ∙ (rw c at (rw r at (g .leads)))
 
 pub rows-length : (n : ℕ) (bs : List ℕ) → length (hexRows n bs) ≤ 2 * length bs + n

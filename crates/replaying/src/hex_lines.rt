@@ -23,11 +23,11 @@ fn put_row(out: &mut [u8], start: usize, bytes: &[u8], from: usize, count: usize
     place + 1
 }
 
-// An image in rows of 32 bytes; the last has 8.
+// An image in rows of 32 bytes; the last has 14.
 pub fn put_rows(out: &mut [u8], start: usize, image: &[u8]) -> usize
     // It is an image and there is room: only `put_image_lines` calls this, with both.
-    requires { ⌜ length (now image) ≡ 1288 ⌝ }
-    requires { ⌜ start + 2617 ≤ length (now out) ⌝ }
+    requires { ⌜ length (now image) ≡ 1294 ⌝ }
+    requires { ⌜ start + 2629 ≤ length (now out) ⌝ }
     ensures { λ r. ⌜ written r (now (out .exit))
         ≡ writtenOf (now (out .entry)) start (hexRows 41 (now (image .entry))) ⌝ }
 {
@@ -37,5 +37,5 @@ pub fn put_rows(out: &mut [u8], start: usize, image: &[u8]) -> usize
         place = put_row(out, place, image, 32 * row, 32);
         row += 1;
     }
-    put_row(out, place, image, 1280, 8)
+    put_row(out, place, image, 1280, 14)
 }

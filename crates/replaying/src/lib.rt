@@ -1,8 +1,9 @@
 // The replay: the cost lister's text from a state image, and the next state's image.
 //
 // The input is an image and then a trace: `replay_parts` reads the image (`image`), `replay_from` lists the trace from
-// its state (`listing`), and the next state's image follows in the rows of `hex_lines`. Only `replay_text` is called
-// from outside, by the program `replay`.
+// its state (`listing`), and the next state follows: its head in a line (`head_line`), its image in the rows of
+// `hex_lines`. Only `replay_text` is called from outside, by the program `replay`.
+mod head_line;
 mod hex_lines;
 
 ghost use mathlib.Core.Path.{_≡_};
@@ -13,30 +14,42 @@ ghost use Rattle.text.specs.Written.{textOf, written, writtenOf};
 ghost use Rattle.image.specs.Entries.{imageReadOf};
 ghost use Rattle.listing.specs.Lines.{refusalLine};
 ghost use Rattle.listing.specs.Listing.{shortTraceOf};
-ghost use Rattle.replaying.specs.Replay.{imageLines, shown, replayOf};
+ghost use Rattle.replaying.specs.Replay.{imageSize, imageLines, stateLines, shown, replayOf};
 ghost use Rattle.replaying.specs.Inner.{replayed};
 use image::IMAGE_LENGTH;
+use image::KIND;
+use image::OLD_LENGTH;
 use profile::Profile;
 use refusals::Refusal;
 use refusals::Verdict;
 use state::Oep060Timing;
 
-// Room for the longest text: the lister's, and the 1,288 bytes of an image, two digits each, in 41 lines.
-pub const REPLAY_ROOM: usize = 68224;
+// Room for the longest text: the lister's, the head's line, and the 1,294 bytes of an image, two digits each, in 41
+// lines.
+pub const REPLAY_ROOM: usize = 68258;
 
 // The image of a state in rows.
 fn put_image_lines(out: &mut [u8], at: usize, timing: Oep060Timing) -> usize
-    requires { ⌜ at + 2617 ≤ length (now out) ⌝ }
+    requires { ⌜ at + 2629 ≤ length (now out) ⌝ }
     ensures { λ r. ⌜ written r (now (out .exit)) ≡ writtenOf (now (out .entry)) at (imageLines timing) ⌝ }
 {
-    let mut bytes = [0u8; 1288];
+    let mut bytes = [0u8; IMAGE_LENGTH];
     image::image_write(timing, &mut bytes);
     hex_lines::put_rows(out, at, &bytes)
 }
 
+// A state: its head, then its image.
+fn put_state(out: &mut [u8], at: usize, timing: Oep060Timing) -> usize
+    requires { ⌜ at + 2651 ≤ length (now out) ⌝ }
+    ensures { λ r. ⌜ written r (now (out .exit)) ≡ writtenOf (now (out .entry)) at (stateLines timing) ⌝ }
+{
+    let rows = head_line::put_head_line(out, at, timing.window);
+    put_image_lines(out, rows, timing)
+}
+
 // The replay's text from the state that was read.
 fn replay_from(trace: &[u8], out: &mut [u8], timing: Oep060Timing, profile: Profile) -> usize
-    requires { ⌜ 68224 ≤ length (now out) ⌝ }
+    requires { ⌜ 68258 ≤ length (now out) ⌝ }
     ensures { λ r. ⌜ written r (now (out .exit))
         ≡ writtenOf (now (out .entry)) 0 (shown profile (shortTraceOf (now (trace .entry))) timing) ⌝ }
 {
@@ -46,7 +59,7 @@ fn replay_from(trace: &[u8], out: &mut [u8], timing: Oep060Timing, profile: Prof
     let next = listed.timing;
     match verdict {
         Verdict::Refused(_) => len,
-        Verdict::Accepted => put_image_lines(out, len, next),
+        Verdict::Accepted => put_state(out, len, next),
     }
 }
 
@@ -62,7 +75,7 @@ fn put_refused(out: &mut [u8], refusal: Refusal) -> usize
 
 // The image is judged first.
 fn replay_parts(image: &[u8], trace: &[u8], out: &mut [u8], profile: Profile) -> usize
-    requires { ⌜ 68224 ≤ length (now out) ⌝ }
+    requires { ⌜ 68258 ≤ length (now out) ⌝ }
     ensures { λ r. ⌜ written r (now (out .exit))
         ≡ writtenOf (now (out .entry)) 0 (replayed profile (imageReadOf (now (image .entry))) (now (trace .entry))) ⌝ }
 {
@@ -75,13 +88,27 @@ fn replay_parts(image: &[u8], trace: &[u8], out: &mut [u8], profile: Profile) ->
     }
 }
 
+// How many bytes of the input are the image: by its kind, as far as there are so many.
+fn image_size(input: &[u8]) -> usize
+    ensures { λ r. ⌜ r ≡ min (length (now (input .entry))) (imageSize (now (input .entry))) ⌝ }
+{
+    let n = input.len();
+    if n < 4 { // too short to say a kind, and so for an image of either
+        return n;
+    }
+    if little_endian::u16_at(input, 2) == KIND {
+        return least(n, IMAGE_LENGTH);
+    }
+    least(n, OLD_LENGTH)
+}
+
 // The trace is what follows the image.
 fn replay_into(input: &[u8], out: &mut [u8], profile: Profile) -> usize
-    requires { ⌜ 68224 ≤ length (now out) ⌝ }
+    requires { ⌜ 68258 ≤ length (now out) ⌝ }
     ensures { λ r. ⌜ written r (now (out .exit))
         ≡ writtenOf (now (out .entry)) 0 (replayOf profile (now (input .entry))) ⌝ }
 {
-    let size = least(input.len(), IMAGE_LENGTH);
+    let size = image_size(input);
     replay_parts(&input[..size], &input[size..], out, profile)
 }
 

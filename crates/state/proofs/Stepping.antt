@@ -16,6 +16,7 @@ use Rattle.cost.specs.Retiring.{Retiring, Point, otherPoint}
 use Rattle.cost.specs.Branch.{takenOf, branchCost}
 use Rattle.cost.specs.Cost.{asHead, costBy, windowBy, chargedBy, costOf, windowOf}
 use Rattle.cost.proofs.Led.{led-open, led-shut, kind-branch, kind-other, other-cost}
+use Rattle.state.specs.declared.Retirement.{Retirement}
 use Rattle.state.specs.declared.Oep060Timing.{Oep060Timing}
 use Rattle.state.specs.declared.Stepped.{Stepped}
 use Rattle.state.specs.Events.{asMet, answerOf, cacheAfter}
@@ -30,20 +31,23 @@ untouched : (c : BranchCache060) (i : Instruction) (k : Controls) → has (i .wo
 unfolding cacheAfter
 untouched c i k e = rw e
 
-module _ (t : Oep060Timing) (i : Instruction) (k : Controls) where
+module _ (t : Oep060Timing) (i : Instruction) (r : Retirement) where
+  abbrev k : Controls
+  k = r .controls
+
   abbrev met : Retiring
-  met = asMet crateCache (stateOf t) i k
+  met = asMet crateCache (stateOf t) i r
 
   abbrev answer : Answer
   answer = answerOf crateCache (t .cache) i k
 
   stepped : {n : Clocks} → n ≡ clocks (costOf met) → {c : BranchCache060} → c ≡ cacheAfter crateCache (t .cache) i k → {w : Window} → w ≡ windowOf met
-      → left c w n ≡ steppedBy t i k
+      → left c w n ≡ steppedBy t i r
   unfolding steppedBy
   stepped e h o = rw (e, h, o)
 
   pub stepped-branch : has (i .word .0) BRANCH ≡ true → {a : Answer} {c : BranchCache060} → asked a c ≡ askedOf (t .cache) i k
-      → {n : Clocks} → n ≡ clocks (branchCost (has (i .word .0) DBCC) (takenOf i k) (t .window .opened) a) → left c shut n ≡ steppedBy t i k
+      → {n : Clocks} → n ≡ clocks (branchCost (has (i .word .0) DBCC) (takenOf i k) (t .window .opened) a) → left c shut n ≡ steppedBy t i r
   unfolding costOf windowOf
   stepped-branch b x e =
       let kind = sym (kind-branch i k b) in
@@ -51,19 +55,19 @@ module _ (t : Oep060Timing) (i : Instruction) (k : Controls) where
       (e
       ∙ ap (λ (y : Asked). clocks (branchCost (has (i .word .0) DBCC) (takenOf i k) (t .window .opened) (y .answer))) x
       ∙ ap (λ (y : Point). clocks (costBy y i k (t .window) answer)) kind)
-      (ap (λ (y : Asked). y .cache) x) (ap (λ (y : Point). windowBy y i k (t .window)) kind)
+      (ap (λ (y : Asked). y .cache) x) (ap (λ (y : Point). windowBy y (r .op) i k (t .window)) kind)
 
   module _ {c : Charged} (no : has (i .word .0) BRANCH ≡ false) (e : c ≡ chargedBy (otherPoint k) i k (t .window) NotConsulted) where
-    other : {w : Window} → w ≡ windowBy (otherPoint k) i k (t .window) → left (t .cache) w (c .cost) ≡ steppedBy t i k
+    other : {w : Window} → w ≡ windowBy (otherPoint k) (r .op) i k (t .window) → left (t .cache) w (c .cost) ≡ steppedBy t i r
     unfolding costOf windowOf
     other o =
         let kind = sym (kind-other i k no) in
         stepped
         (ap (λ (x : Charged). x .cost) e ∙ ap clocks (other-cost i k (t .window) NotConsulted answer ∙ ap (λ (y : Point). costBy y i k (t .window) answer) kind))
-        (untouched (t .cache) i k no) (o ∙ ap (λ (y : Point). windowBy y i k (t .window)) kind)
+        (untouched (t .cache) i k no) (o ∙ ap (λ (y : Point). windowBy y (r .op) i k (t .window)) kind)
 
-    pub stepped-open : c .heads ≡ true → left (t .cache) (asHead i k) (c .cost) ≡ steppedBy t i k
-    stepped-open b = other (sym (led-open (otherPoint k) i k (t .window) (sym (ap (λ (x : Charged). x .heads) e) ∙ b)))
+    pub stepped-open : c .heads ≡ true → left (t .cache) (asHead (r .op) i k) (c .cost) ≡ steppedBy t i r
+    stepped-open b = other (sym (led-open (otherPoint k) (r .op) i k (t .window) (sym (ap (λ (x : Charged). x .heads) e) ∙ b)))
 
-    pub stepped-shut : c .heads ≡ false → left (t .cache) shut (c .cost) ≡ steppedBy t i k
-    stepped-shut b = other (sym (led-shut (otherPoint k) i k (t .window) (sym (ap (λ (x : Charged). x .heads) e) ∙ b)))
+    pub stepped-shut : c .heads ≡ false → left (t .cache) shut (c .cost) ≡ steppedBy t i r
+    stepped-shut b = other (sym (led-shut (otherPoint k) (r .op) i k (t .window) (sym (ap (λ (x : Charged). x .heads) e) ∙ b)))

@@ -7,8 +7,9 @@
 --   answerOf c i k    ==  the cache's answer
 --   cacheAfter        ==  the cache after a retirement
 --                         "cache untouched"; "then the cache is updated"
---   asMet s i k       ==  an instruction as it retires in a state: with the controls, the window and the cache's answer
---   past s i k        ==  the state after it
+--   asMet s i r       ==  an instruction as it retires in a state: with the opcode and the controls of the retirement
+--                         r, the window and the cache's answer
+--   past s i r        ==  the state after it
 --   seenState s       ==  a state as it is read
 --                         "read, and handed back, as if they were zero"
 --   brokenState s     ==  the state after a break
@@ -75,11 +76,11 @@ module _ (K : CacheRule) where
   unfoldable pub cacheAfter : K .Cache → Instruction → Controls → K .Cache
   cacheAfter c i k = cond (consults i k) (K .update c (k .ppc) (takenOf i k) (not (k .supervisor))) c
 
-  abbrev pub asMet : State K → Instruction → Controls → Retiring
-  asMet s i k = retiring i k (s .window) (answerOf (s .cache) i k)
+  abbrev pub asMet : State K → Instruction → Retirement → Retiring
+  asMet s i r = retiring (r .op) i (r .controls) (s .window) (answerOf (s .cache) i (r .controls))
 
-  abbrev pub past : State K → Instruction → Controls → State K
-  past s i k = record { cache = cacheAfter (s .cache) i k; window = windowOf (asMet s i k) }
+  abbrev pub past : State K → Instruction → Retirement → State K
+  past s i r = record { cache = cacheAfter (s .cache) i (r .controls); window = windowOf (asMet s i r) }
 
   abbrev pub seenState : State K → State K
   seenState s = record { cache = s .cache; window = seen (s .window) }
@@ -95,10 +96,10 @@ module _ (K : CacheRule) where
 
 module _ (B : Board) where
   abbrev pub retiringOf : State (B .rule) → Retirement → Retiring
-  retiringOf s r = asMet (B .rule) s (B .profile (r .op)) (r .controls)
+  retiringOf s r = asMet (B .rule) s (B .profile (r .op)) r
 
   abbrev pub after : State (B .rule) → Event → State (B .rule)
-  after s (Retired r) = past (B .rule) s (B .profile (r .op)) (r .controls)
+  after s (Retired r) = past (B .rule) s (B .profile (r .op)) r
   after s Broken = brokenState (B .rule) s
   after s ClearedAll = clearedState (B .rule) s
   after s ClearedUser = userCleared (B .rule) s

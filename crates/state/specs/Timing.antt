@@ -5,7 +5,7 @@
 --   timingAt ts bs w       ==  the struct of these tags, bytes and window
 --   Asked, asked a c       ==  the cache's answer together with the next cache
 --   askedOf c i k          ==  the same of a cache, when an instruction retires
---   steppedBy t i k        ==  the whole state and the cost after an instruction retires
+--   steppedBy t i r        ==  the whole state and the cost after an instruction retires as r
 --   seenOf t               ==  the state as it is read
 --   brokenOf t             ==  the state after a break
 --   clearedOf t            ==  the state after a clear of all
@@ -22,6 +22,7 @@ use Rattle.window.specs.declared.Window.{Window}
 use Rattle.window.specs.Windows.{shut}
 use Rattle.cost.specs.declared.branch.Answer.{Answer}
 use Rattle.cost.specs.Cost.{costOf}
+use Rattle.state.specs.declared.Retirement.{Retirement}
 use Rattle.state.specs.declared.Oep060Timing.{Oep060Timing}
 use Rattle.state.specs.declared.Stepped.{Stepped}
 use Rattle.state.specs.Events.{
@@ -57,10 +58,10 @@ asked answer cache = record { answer = answer; cache = cache }
 abbrev pub askedOf : BranchCache060 → Instruction → Controls → Asked
 askedOf c i k = asked (answerOf crateCache c i k) (cacheAfter crateCache c i k)
 
-unfoldable pub steppedBy : Oep060Timing → Instruction → Controls → Stepped
-steppedBy t i k = record {
-  timing = timingOf (past crateCache (stateOf t) i k);
-  cost = clocks (costOf (asMet crateCache (stateOf t) i k));
+unfoldable pub steppedBy : Oep060Timing → Instruction → Retirement → Stepped
+steppedBy t i r = record {
+  timing = timingOf (past crateCache (stateOf t) i r);
+  cost = clocks (costOf (asMet crateCache (stateOf t) i r));
 }
 
 abbrev pub seenOf : Oep060Timing → Oep060Timing

@@ -21,7 +21,7 @@ abbrev pub boardOf : Profile → Board
 boardOf p = record { profile = profileOf p; rule = crateCache }
 
 abbrev pub steppedOf : Profile → Oep060Timing → Retirement → Stepped
-steppedOf p t r = steppedBy t (profileOf p (r .op)) (r .controls)
+steppedOf p t r = steppedBy t (profileOf p (r .op)) r
 
 abbrev pub afterOf : Profile → Oep060Timing → Event → Oep060Timing
 afterOf p t e = timingOf (after (boardOf p) (stateOf t) e)

@@ -40,10 +40,11 @@ fn answered(cache: BranchCache060, i: Instruction, k: Controls) -> Answer
 }
 
 // The window is noted, then shut; the cache is asked, and then updated.
-fn branch_060(mut timing: Oep060Timing, i: Instruction, k: Controls) -> Stepped
+fn branch_060(mut timing: Oep060Timing, i: Instruction, r: Retirement) -> Stepped
     requires { ⌜ has (i .word .0) BRANCH ≡ true ⌝ }
-    ensures { λ o. ⌜ o ≡ steppedBy timing i k ⌝ }
+    ensures { λ o. ⌜ o ≡ steppedBy timing i r ⌝ }
 {
+    let k = r.controls;
     let taken = cost::taken(i, k);
     let opened = timing.window.opened;
     timing.window = Window::shut();
@@ -56,14 +57,15 @@ fn branch_060(mut timing: Oep060Timing, i: Instruction, k: Controls) -> Stepped
 }
 
 // Another change of flow, or neither: the dispatch test is in what it is charged.
-fn other_060(mut timing: Oep060Timing, i: Instruction, k: Controls) -> Stepped
+fn other_060(mut timing: Oep060Timing, i: Instruction, r: Retirement) -> Stepped
     requires { ⌜ has (i .word .0) BRANCH ≡ false ⌝ }
-    ensures { λ o. ⌜ o ≡ steppedBy timing i k ⌝ }
+    ensures { λ o. ⌜ o ≡ steppedBy timing i r ⌝ }
 {
+    let k = r.controls;
     let charged = cost::charge_other(i, k, timing.window);
     let cost = charged.cost;
     if charged.heads {
-        timing.window = cost::as_head(i, k);
+        timing.window = cost::as_head(r.op, i, k);
     } else {
         timing.window = Window::shut();
     }
@@ -84,7 +86,7 @@ pub fn cycles_060(chosen: Chosen, r: Retirement) -> Stepped
     let profile = chosen.profile;
     let i = profile::read_in(profile, r.op, looked_up);
     if i.word.has(F_BRANCH) {
-        return branch_060(chosen.timing, i, r.controls);
+        return branch_060(chosen.timing, i, r);
     }
-    other_060(chosen.timing, i, r.controls)
+    other_060(chosen.timing, i, r)
 }

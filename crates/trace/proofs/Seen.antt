@@ -30,7 +30,7 @@ module _ (B : Board) where
   pub after-seen : (s : State (B .rule)) (e : Event) → after B (seenState (B .rule) s) e ≡ after B s e
   after-seen s (Retired r) =
       ap (put (cacheAfter (B .rule) (s .cache) (B .profile (r .op)) (r .controls)))
-      (seen-window (B .profile (r .op)) (r .controls) (s .window) (answerOf (B .rule) (s .cache) (B .profile (r .op)) (r .controls)))
+      (seen-window (r .op) (B .profile (r .op)) (r .controls) (s .window) (answerOf (B .rule) (s .cache) (B .profile (r .op)) (r .controls)))
   after-seen s Broken = refl
   after-seen s ClearedAll = ap (put (B .rule .clearAll (s .cache))) (seen-seen (s .window))
   after-seen s ClearedUser = ap (put (B .rule .clearUser (s .cache))) (seen-seen (s .window))
@@ -38,7 +38,7 @@ module _ (B : Board) where
   pub seen-after : (s : State (B .rule)) (e : Event) → seenState (B .rule) (after B s e) ≡ after B s e
   seen-after s (Retired r) =
       ap (put (cacheAfter (B .rule) (s .cache) (B .profile (r .op)) (r .controls)))
-      (next-seen (B .profile (r .op)) (r .controls) (s .window) (answerOf (B .rule) (s .cache) (B .profile (r .op)) (r .controls)))
+      (next-seen (r .op) (B .profile (r .op)) (r .controls) (s .window) (answerOf (B .rule) (s .cache) (B .profile (r .op)) (r .controls)))
   seen-after s Broken = refl
   seen-after s ClearedAll = ap (put (B .rule .clearAll (s .cache))) (seen-seen (s .window))
   seen-after s ClearedUser = ap (put (B .rule .clearUser (s .cache))) (seen-seen (s .window))
@@ -48,7 +48,7 @@ module _ (B : Board) where
   costs-seen s [] = refl
   costs-seen s (Retired r ∷ es) =
       ap₂ _∷_
-      (seen-cost (B .profile (r .op)) (r .controls) (s .window) (answerOf (B .rule) (s .cache) (B .profile (r .op)) (r .controls)))
+      (seen-cost (r .op) (B .profile (r .op)) (r .controls) (s .window) (answerOf (B .rule) (s .cache) (B .profile (r .op)) (r .controls)))
       (ap (λ (x : State (B .rule)). costs B x es) (after-seen s (Retired r)))
   costs-seen s (Broken ∷ es) = refl
   costs-seen s (ClearedAll ∷ es) = ap (λ (x : State (B .rule)). costs B x es) (after-seen s ClearedAll)

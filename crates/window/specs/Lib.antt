@@ -1,6 +1,6 @@
 -- Document 01, part 5: the pairing window.
 --
---   Windows   ==  the shut window, and a window as it is read
+--   Windows   ==  the shut window, a window as it is read, and one without its head's opcode and address
 --   Raw       ==  a raw 68000 count as 68060 clocks
 --   Dispatch  ==  the dispatch test: the six rules, in order
 --

@@ -18,7 +18,8 @@ pub use raw::fallback_cycles;
 ghost use mathlib.Core.Path.{_≡_};
 ghost use Rattle.window.specs.Windows.{shut, seen};
 
-// The Rust's Option<PendingHead060>: `opened` says whether there is a head; the other fields are the head's.
+// The Rust's Option<PendingHead060>: `opened` says whether there is a head; the other fields are the head's. The Rust
+// has no `op` and `address`: document 02's R-6 keeps them, and no cost looks at them.
 pub struct Window {
     pub opened: bool,
     // def_mask
@@ -29,6 +30,10 @@ pub struct Window {
     pub mem: bool,
     // head_cached
     pub warm: bool,
+    // the head's opcode
+    pub op: u16,
+    // the head's ppc
+    pub address: u32,
 }
 
 impl Window {
@@ -41,6 +46,8 @@ impl Window {
             ccr: false,
             mem: false,
             warm: false,
+            op: 0,
+            address: 0,
         }
     }
 

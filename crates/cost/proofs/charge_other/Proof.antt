@@ -2,7 +2,6 @@
 -- Assumes nothing.
 use mathlib.Core.Path.{sym}
 use borrow.Author.Needs.{needs}
-use Rattle.cost.proofs.Led.{head-opened}
 use Rattle.cost.proofs.charge_other.Statement.{statement}
 use Rattle.cost.proofs.charge_other.Tie as tie
 
@@ -42,7 +41,6 @@ returns-3 c =
       sym (c .before .before .pairs .ensures),
       c .before .if2 .left,
       c .leads .ensures,
-      head-opened,
     )
 
 pub charge-other-spec : {M : Type 1} → statement M

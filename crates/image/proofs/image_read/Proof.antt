@@ -1,12 +1,11 @@
--- `image_read`: the state of an accepted image, and else a fresh one. An accepted image has 1,288 bytes.
+-- `image_read`: the state of an accepted image, and else a fresh one. An accepted image has at least 1,288 bytes.
 -- Assumes nothing.
 use mathlib.Core.Path.{_≡_, sym, _∙_}
 use mathlib.Core.List.{List}
 use Prim.Native.Nat.{ℕ}
-use native.Mathlib.Omega.{arith}
 use Rattle.refusals.specs.declared.Verdict.the-variants.{Accepted}
 use Rattle.image.specs.Entries.{imageVerdictOf}
-use Rattle.image.proofs.Refusals.{image-judged, image-by}
+use Rattle.image.proofs.Refusals.{image-taken, long-enough, image-by}
 use borrow.Author.Needs.{needs}
 use Rattle.image.proofs.image_read.Statement.{statement}
 use Rattle.image.proofs.image_read.Tie as tie
@@ -21,7 +20,7 @@ image-state-requires : tie.Need-image-state-requires
 image-state-requires c κs =
     let s : List ℕ = c .before .before .before .before .args .bytes .now in
     let e : imageVerdictOf s ≡ Accepted = sym (c .before .before .image-verdict .ensures) ∙ c .enum-told .given .1 in
-    omega (arith, image-judged s Accepted .0 e .0)
+    long-enough s (image-taken s e .0)
 
 enum-told-2 : tie.Need-enum-told-2
 enum-told-2 c = search needs

@@ -1,4 +1,4 @@
--- `image_write`: under 1,288 bytes nothing is put; else the image is put.
+-- `image_write`: under 1,294 bytes nothing is put; else the image is put.
 -- Assumes nothing.
 use borrow.Author.Needs.{needs}
 use borrow.Author.Tests.{lt-ltb}

@@ -10,6 +10,7 @@ use Rattle.cost.specs.declared.branch.Answer.the-variants.{NotConsulted}
 use Rattle.cost.specs.Retiring.{otherPoint}
 use Rattle.cost.specs.Branch.{takenOf, branchCost}
 use Rattle.cost.specs.Cost.{chargedBy}
+use Rattle.state.specs.declared.Retirement.{Retirement}
 use Rattle.state.specs.Timing.{steppedBy}
 use Rattle.in_place.specs.Lent.{lent, stateAt}
 use Rattle.in_place.specs.Retire.{paidOf}
@@ -45,11 +46,12 @@ returns c =
     let i = h .before .instruction-060 .result in
     let k = h .before .before .controls-of .result in
     let a = h .before .before .before .args in
+    let r : Retirement = record { op = a .op; controls = k } in
     let l = lent (a .tags .now) (a .state .now) (a .window .now) in
-    paid-branch l i k (sym (h .has .ensures) ∙ s .before .before .before .if1 .taken) (s .ask-in-place .ensures)
+    paid-branch l i r (sym (h .has .ensures) ∙ s .before .before .before .if1 .taken) (s .ask-in-place .ensures)
     (c .charge-branch .ensures ∙ ap (λ (w : Window). clocks (branchCost (has (i .word .0) DBCC) (takenOf i k) (w .opened) (s .ask-in-place .result))) (c .before .before .before .window-at .ensures))
     (c .before .shut-window .ensures)
-    ∙ ap₂ (λ (x : Instruction) (y : Controls). paidOf (steppedBy (stateAt l) x y)) (h .before .instruction-060 .ensures) (h .before .before .controls-of .ensures)
+    ∙ ap₂ (λ (x : Instruction) (y : Controls). paidOf (steppedBy (stateAt l) x (record { op = a .op; controls = y }))) (h .before .instruction-060 .ensures) (h .before .before .controls-of .ensures)
 
 window-at-requires-2 : tie.Need-window-at-requires-2
 window-at-requires-2 c κs = search needs
@@ -70,10 +72,11 @@ returns-2 c =
     let i = h .before .instruction-060 .result in
     let k = h .before .before .controls-of .result in
     let a = h .before .before .before .args in
+    let r : Retirement = record { op = a .op; controls = k } in
     let l = lent (a .tags .now) (a .state .now) (a .window .now) in
-    paid-open l i k (sym (h .has .ensures) ∙ o .before .before .before .if1 .left)
+    paid-open l i r (sym (h .has .ensures) ∙ o .before .before .before .if1 .left)
     (o .charge-other .ensures ∙ ap (λ (w : Window). chargedBy (otherPoint k) i k w NotConsulted) (o .before .window-at2 .ensures)) (c .before .before .if2 .taken) (c .put-head .ensures)
-    ∙ ap₂ (λ (x : Instruction) (y : Controls). paidOf (steppedBy (stateAt l) x y)) (h .before .instruction-060 .ensures) (h .before .before .controls-of .ensures)
+    ∙ ap₂ (λ (x : Instruction) (y : Controls). paidOf (steppedBy (stateAt l) x (record { op = a .op; controls = y }))) (h .before .instruction-060 .ensures) (h .before .before .controls-of .ensures)
 
 returns-3 : tie.Need-returns-3
 returns-3 c =
@@ -82,10 +85,11 @@ returns-3 c =
     let i = h .before .instruction-060 .result in
     let k = h .before .before .controls-of .result in
     let a = h .before .before .before .args in
+    let r : Retirement = record { op = a .op; controls = k } in
     let l = lent (a .tags .now) (a .state .now) (a .window .now) in
-    paid-shut l i k (sym (h .has .ensures) ∙ o .before .before .before .if1 .left)
+    paid-shut l i r (sym (h .has .ensures) ∙ o .before .before .before .if1 .left)
     (o .charge-other .ensures ∙ ap (λ (w : Window). chargedBy (otherPoint k) i k w NotConsulted) (o .before .window-at2 .ensures)) (c .before .before .if2 .left) (c .shut-window2 .ensures)
-    ∙ ap₂ (λ (x : Instruction) (y : Controls). paidOf (steppedBy (stateAt l) x y)) (h .before .instruction-060 .ensures) (h .before .before .controls-of .ensures)
+    ∙ ap₂ (λ (x : Instruction) (y : Controls). paidOf (steppedBy (stateAt l) x (record { op = a .op; controls = y }))) (h .before .instruction-060 .ensures) (h .before .before .controls-of .ensures)
 
 pub retire-spec : {M : Type 1} → statement M
 retire-spec =

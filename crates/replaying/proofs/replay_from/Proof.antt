@@ -24,8 +24,8 @@ enum-told c = search needs
 enum-told-2 : tie.Need-enum-told-2
 enum-told-2 c = search needs
 
-put-image-lines-requires : tie.Need-put-image-lines-requires
-put-image-lines-requires c κs =
+put-state-requires : tie.Need-put-state-requires
+put-state-requires c κs =
     let d = c .before .before .before .before .before .before in
     let r = replay-room _ _ _ _ (d .list-into .ensures) (c .before .enum-told2 .given .1) in
     omega (arith, d .list-into .kept .1 .0, c .before .before .before .before .before .before .before .before .before .before .pre)
@@ -44,7 +44,7 @@ same-length-2 c = search needs
 returns-2 : tie.Need-returns-2
 returns-2 c =
     let d = c .before .before .before .before .before .before .before .before .before in
-    replay-shown _ _ _ _ (d .list-into .ensures) (c .before .before .before .before .enum-told2 .given .1) (c .before .before .before .before .before .before .before .before .before .before .before .before .before .pre) (tags d) (slots d) (c .before .before .put-image-lines .ensures)
+    replay-shown _ _ _ _ (d .list-into .ensures) (c .before .before .before .before .enum-told2 .given .1) (c .before .before .before .before .before .before .before .before .before .before .before .before .before .pre) (tags d) (slots d) (c .before .before .put-state .ensures)
 
 pub replay-from-spec : {M : Type 1} → statement M
 replay-from-spec =
@@ -53,7 +53,7 @@ replay-from-spec =
     list-into-requires
     enum-told
     enum-told-2
-    put-image-lines-requires
+    put-state-requires
     same-length
     returns
     same-length-2

@@ -12,6 +12,7 @@ use Rattle.window.specs.declared.Window.{Window}
 use Rattle.window.specs.Windows.{shut}
 use Rattle.cost.specs.declared.branch.Answer.{Answer}
 use Rattle.cost.specs.Branch.{takenOf, branchCost}
+use Rattle.state.specs.declared.Retirement.{Retirement}
 use Rattle.state.specs.declared.Oep060Timing.{Oep060Timing}
 use Rattle.state.specs.declared.Stepped.{Stepped}
 use Rattle.state.specs.Events.{consults, answerOf, cacheAfter}
@@ -32,13 +33,13 @@ module _ (c : BranchCache060) (i : Instruction) (k : Controls) where
   unfolding cacheAfter
   kept e = simp e
 
-retired : (t : Oep060Timing) (i : Instruction) (k : Controls) → has (i .word .0) BRANCH ≡ true
-    → {a : Answer} → a ≡ answerOf crateCache (t .cache) i k → {c : BranchCache060} → c ≡ cacheAfter crateCache (t .cache) i k
-    → {w : Window} → w ≡ shut → {taken : Bool} → taken ≡ takenOf i k → {d : Bool} → d ≡ has (i .word .0) DBCC
-    → {n : Clocks} → n ≡ clocks (branchCost d taken (t .window .opened) a) → left c w n ≡ steppedBy t i k
-retired t i k b {a} e {c} h {w} q {taken} s {d} f {n} p =
+retired : (t : Oep060Timing) (i : Instruction) (r : Retirement) → has (i .word .0) BRANCH ≡ true
+    → {a : Answer} → a ≡ answerOf crateCache (t .cache) i (r .controls) → {c : BranchCache060} → c ≡ cacheAfter crateCache (t .cache) i (r .controls)
+    → {w : Window} → w ≡ shut → {taken : Bool} → taken ≡ takenOf i (r .controls) → {d : Bool} → d ≡ has (i .word .0) DBCC
+    → {n : Clocks} → n ≡ clocks (branchCost d taken (t .window .opened) a) → left c w n ≡ steppedBy t i r
+retired t i r b {a} e {c} h {w} q {taken} s {d} f {n} p =
     ap (λ (v : Window). left c v n) q
-    ∙ stepped-branch t i k b (ap₂ asked e h) (p ∙ ap₂ (λ (x y : Bool). clocks (branchCost x y (t .window .opened) a)) f s)
+    ∙ stepped-branch t i r b (ap₂ asked e h) (p ∙ ap₂ (λ (x y : Bool). clocks (branchCost x y (t .window .opened) a)) f s)
 
 taken-requires : tie.Need-taken-requires
 taken-requires c κs = search needs
@@ -66,9 +67,9 @@ returns c =
     let k = c .before .before .before in
     let b = k .before in
     let n = b .before .before in
-    let a = n .before .before .before .args in
+    let a = n .before .before .before .before .args in
     let e = sym (k .consulted .ensures) ∙ c .before .before .if1 .taken in
-    retired (a .timing) (a .i) (a .k) (n .before .before .before .pre) (n .answered .ensures) (updated (a .timing .cache) (a .i) (a .k) e (n .before .before .taken .ensures) (c .update .ensures))
+    retired (a .timing) (a .i) (a .r) (n .before .before .before .before .pre) (n .answered .ensures) (updated (a .timing .cache) (a .i) (a .r .controls) e (n .before .before .taken .ensures) (c .update .ensures))
     (n .before .shut .ensures) (n .before .before .taken .ensures) (b .before .has .ensures) (b .branch-cost-060 .ensures)
 
 returns-2 : tie.Need-returns-2
@@ -76,9 +77,9 @@ returns-2 c =
     let k = c .before in
     let b = k .before in
     let n = b .before .before in
-    let a = n .before .before .before .args in
+    let a = n .before .before .before .before .args in
     let e = sym (k .consulted .ensures) ∙ c .if1 .left in
-    retired (a .timing) (a .i) (a .k) (n .before .before .before .pre) (n .answered .ensures) (kept (a .timing .cache) (a .i) (a .k) e)
+    retired (a .timing) (a .i) (a .r) (n .before .before .before .before .pre) (n .answered .ensures) (kept (a .timing .cache) (a .i) (a .r .controls) e)
     (n .before .shut .ensures) (n .before .before .taken .ensures) (b .before .has .ensures) (b .branch-cost-060 .ensures)
 
 pub branch-060-spec : {M : Type 1} → statement M

@@ -24,7 +24,7 @@ returns : tie.Need-returns
 returns c =
     let d = c .before .before .before in
     let a = d .before .before .before .args in
-    c .branch-060 .ensures ∙ ap (λ (i : Instruction). steppedBy (a .chosen .timing) i (a .r .controls)) (looked-up d)
+    c .branch-060 .ensures ∙ ap (λ (i : Instruction). steppedBy (a .chosen .timing) i (a .r)) (looked-up d)
 
 other-060-requires : tie.Need-other-060-requires
 other-060-requires c κs = sym (c .before .has .ensures) ∙ c .if1 .left
@@ -33,7 +33,7 @@ returns-2 : tie.Need-returns-2
 returns-2 c =
     let d = c .before .before .before in
     let a = d .before .before .before .args in
-    c .other-060 .ensures ∙ ap (λ (i : Instruction). steppedBy (a .chosen .timing) i (a .r .controls)) (looked-up d)
+    c .other-060 .ensures ∙ ap (λ (i : Instruction). steppedBy (a .chosen .timing) i (a .r)) (looked-up d)
 
 pub cycles-060-spec : {M : Type 1} → statement M
 cycles-060-spec =

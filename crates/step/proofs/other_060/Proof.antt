@@ -19,16 +19,16 @@ shut-requires c κs = search needs
 returns : tie.Need-returns
 returns c =
     let o = c .before .before .before in
-    let a = o .before .args in
+    let a = o .before .before .args in
     ap (λ (w : Window). left (a .timing .cache) w (o .charge-other .result .cost)) (c .as-head .ensures)
-    ∙ stepped-open (a .timing) (a .i) (a .k) (o .before .pre) (o .charge-other .ensures) (c .before .if1 .taken)
+    ∙ stepped-open (a .timing) (a .i) (a .r) (o .before .before .pre) (o .charge-other .ensures) (c .before .if1 .taken)
 
 returns-2 : tie.Need-returns-2
 returns-2 c =
     let o = c .before .before .before in
-    let a = o .before .args in
+    let a = o .before .before .args in
     ap (λ (w : Window). left (a .timing .cache) w (o .charge-other .result .cost)) (c .shut .ensures)
-    ∙ stepped-shut (a .timing) (a .i) (a .k) (o .before .pre) (o .charge-other .ensures) (c .before .if1 .left)
+    ∙ stepped-shut (a .timing) (a .i) (a .r) (o .before .before .pre) (o .charge-other .ensures) (c .before .if1 .left)
 
 pub other-060-spec : {M : Type 1} → statement M
 other-060-spec =

@@ -49,9 +49,20 @@ returns-4 c =
 returns-5 : tie.Need-returns-5
 unfolding windowWrong shutNotZero
 returns-5 c =
-    let s : List ℕ = c .before .before .before .before .before .before .before .before .args .bytes .now in
-    let zero : getD s 1284 0 ≡ 0 = omega (arith, c .before .if3 .left) in
-    simp (byte-at, zero, lt-leb _ _ (c .before .before .if2 .left), ← c .before .before .before .before .before .u16-at .ensures, c .if4 .left)
+    let s : List ℕ = c .before .before .before .before .before .before .before .before .before .args .bytes .now in
+    let zero : getD s 1284 0 ≡ 0 = omega (arith, c .before .before .if3 .left) in
+    simp (byte-at, zero, lt-leb _ _ (c .before .before .before .if2 .left), ← c .before .before .before .before .before .before .u16-at .ensures, c .before .if4 .left, ne-eqb _ _ (c .if5 .taken))
+
+head-set-requires : tie.Need-head-set-requires
+head-set-requires c κs = search needs
+
+returns-6 : tie.Need-returns-6
+unfolding windowWrong shutNotZero
+returns-6 c =
+    let s : List ℕ = c .before .before .before .before .before .before .before .before .before .before .args .bytes .now in
+    let zero : getD s 1284 0 ≡ 0 = omega (arith, c .before .before .before .if3 .left) in
+    simp (byte-at, zero, ← c .before .before .before .before .before .before .before .u16-at .ensures, c .before .before .if4 .left, c .before .if5 .left)
+    (c .head-set .ensures)
 
 pub window-wrong-spec : {M : Type 1} → statement M
 window-wrong-spec =
@@ -64,4 +75,6 @@ window-wrong-spec =
     returns-2
     returns-3
     returns-4
-    returns-5)
+    returns-5
+    head-set-requires
+    returns-6)

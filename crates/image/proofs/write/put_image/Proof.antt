@@ -22,12 +22,16 @@ put-image-slots-requires c κs = search needs
 put-image-window-requires : tie.Need-put-image-window-requires
 put-image-window-requires c κs = search needs
 
+put-image-head-requires : tie.Need-put-image-head-requires
+put-image-head-requires c κs = search needs
+
 same-length : tie.Need-same-length
 same-length c = search needs
 
 returns : tie.Need-returns
 returns c =
-    let slots = c .before .before .before .before .before .before in
+    let window = c .before .before .before .before .before .before in
+    let slots = window .before .before .before .before in
     let tags = slots .before .before .before .before in
     let header = tags .before .before .before .before in
     let start = header .before .before .before .before in
@@ -39,7 +43,8 @@ returns c =
     (header .put-image-header .ensures)
     (tags .put-image-tags .ensures)
     (slots .put-image-slots .ensures)
-    (c .before .before .put-image-window .ensures)
+    (window .put-image-window .ensures)
+    (c .before .before .put-image-head .ensures)
 
 pub put-image-spec : {M : Type 1} → statement M
 put-image-spec =
@@ -50,5 +55,6 @@ put-image-spec =
     put-image-tags-requires
     put-image-slots-requires
     put-image-window-requires
+    put-image-head-requires
     same-length
     returns)

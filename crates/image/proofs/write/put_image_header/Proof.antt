@@ -22,7 +22,7 @@ returns : tie.Need-returns
 returns c =
     let start = c .before .before .before .before .before .before .before .before .before in
     c .before .before .put-u162 .ensures
-    ∙ ap (λ (s : List ℕ). putAt s 2 (bytesOf 2 16)) (c .before .before .before .before .before .before .put-u16 .ensures)
+    ∙ ap (λ (s : List ℕ). putAt s 2 (bytesOf 2 17)) (c .before .before .before .before .before .before .put-u16 .ensures)
     ∙ header-put (start .args .out .now) (start .pre)
 
 pub put-image-header-spec : {M : Type 1} → statement M

@@ -24,7 +24,9 @@ bits-of-requires : tie.Need-bits-of-requires
 bits-of-requires c κs = search needs
 
 slice-write-out-2 : tie.Need-slice-write-out-2
-slice-write-out-2 c = search needs
+slice-write-out-2 c =
+    let start = c .before .before .before .before .before .before .before in
+    omega (arith, start .pre, length-set (start .args .out .now) 1284 (c .before .before .before .before .before .number .result), c .before .before .before .put-u16 .kept .0)
 
 same-length : tie.Need-same-length
 same-length c =

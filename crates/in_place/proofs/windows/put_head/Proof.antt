@@ -19,14 +19,21 @@ number-requires-2 c κs = search needs
 number-requires-3 : tie.Need-number-requires-3
 number-requires-3 c κs = search needs
 
+cast-t11 : tie.Need-cast-t11
+cast-t11 c = search needs
+
+cast-t13 : tie.Need-cast-t13
+cast-t13 c = search needs
+
 returns : tie.Need-returns
 returns c =
+    let numbers = c .before .before .before in
     simp (
-      c .before .number3 .ensures,
-      c .before .before .number2 .ensures,
-      c .before .before .before .memory .ensures,
-      c .before .before .before .before .number .ensures,
-      c .before .before .before .before .before .has .ensures,
+      numbers .number3 .ensures,
+      numbers .before .number2 .ensures,
+      numbers .before .before .memory .ensures,
+      numbers .before .before .before .number .ensures,
+      numbers .before .before .before .before .has .ensures,
     )
 
 pub put-head-spec : {M : Type 1} → statement M
@@ -38,4 +45,6 @@ put-head-spec =
     memory-requires
     number-requires-2
     number-requires-3
+    cast-t11
+    cast-t13
     returns)

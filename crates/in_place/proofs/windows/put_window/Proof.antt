@@ -16,14 +16,30 @@ number-requires-3 c κs = search needs
 number-requires-4 : tie.Need-number-requires-4
 number-requires-4 c κs = search needs
 
+cast-t8 : tie.Need-cast-t8
+cast-t8 c = search needs
+
+cast-t10 : tie.Need-cast-t10
+cast-t10 c = search needs
+
 returns : tie.Need-returns
 returns c =
+    let numbers = c .before .before .before in
     simp (
-      c .before .number4 .ensures,
-      c .before .before .number3 .ensures,
-      c .before .before .before .number2 .ensures,
-      c .before .before .before .before .number .ensures,
+      numbers .number4 .ensures,
+      numbers .before .number3 .ensures,
+      numbers .before .before .number2 .ensures,
+      numbers .before .before .before .number .ensures,
     )
 
 pub put-window-spec : {M : Type 1} → statement M
-put-window-spec = tie.close (tie.spec number-requires number-requires-2 number-requires-3 number-requires-4 returns)
+put-window-spec =
+    tie.close
+    (tie.spec
+    number-requires
+    number-requires-2
+    number-requires-3
+    number-requires-4
+    cast-t8
+    cast-t10
+    returns)
