@@ -12,14 +12,21 @@ const uint16_t KEPT = TIMING_060_CACHED | TIMING_060_ESS | TIMING_060_EBC | TIMI
 const uint64_t ACCEPTED = TIMING_060_ACCEPTED;
 const uint32_t CRATE = TIMING_060_PROFILE_CRATE, MENDED = TIMING_060_PROFILE_MENDED;
 
+bool head_is(const timing_060 &t, bool open, uint16_t op, uint32_t address) {
+    return (timing_060_has_head(&t) != 0) == open && timing_060_head_opcode(&t) == op &&
+           timing_060_head_address(&t) == address;
+}
+
 void steps() {
     timing_060 t;
     timing_060_fresh(&t, MENDED);
     expect(t.profile == MENDED, "the profile of a fresh state");
     expect(timing_060_retire(&t, 0x7000, KEPT, 0x1000, 0x1002, 4) == 1, "the clocks of MOVEQ into D0");
     expect(t.window[TIMING_060_WINDOW_OPEN] == 1, "the window behind it");
+    expect(head_is(t, true, 0x7000, 0x1000), "the head");
     timing_060_break(&t);
     expect(t.window[TIMING_060_WINDOW_OPEN] == 0, "the window after a break");
+    expect(head_is(t, false, 0, 0), "no head after a break");
     t.state[0] = 12, t.state[1] = 4;
     timing_060_clear_user(&t);
     expect(t.state[0] == 0 && t.state[1] == 4, "the slots after a clear of user entries");
@@ -60,6 +67,36 @@ void runs() {
     expect(is(timing_060_image_write(&t, image, sizeof image), ACCEPTED, 0, sizeof image, 0), "an image written");
     expect(is(timing_060_image_read(&read, image, sizeof image), ACCEPTED, 0, 0, 0), "an image read");
     expect(read.window[TIMING_060_WINDOW_DEFS] == 1, "the window of an image");
+    expect(head_is(read, true, 0x7000, 0x1000), "the head of an image");
+}
+
+// The three readers of the head look at the window's numbers, and at a shut window's not at all.
+void heads() {
+    timing_060 t = timing_060();
+    t.window[TIMING_060_WINDOW_OPCODE] = 0xFEDC;
+    t.window[TIMING_060_WINDOW_ADDRESS_LOW] = 0x5678;
+    t.window[TIMING_060_WINDOW_ADDRESS_HIGH] = 0x9234;
+    expect(head_is(t, false, 0, 0), "the head of a shut window");
+    t.window[TIMING_060_WINDOW_OPEN] = 2;
+    expect(head_is(t, true, 0xFEDC, 0x92345678), "the head of an open window");
+}
+
+// An image of kind 16 is read, and written again as kind 17: the head is 0 at 0.
+void old_image() {
+    timing_060 t = timing_060();
+    uint8_t image[TIMING_060_IMAGE_BYTES];
+    timing_060_retire(&t, 0x7000, KEPT, 0x1000, 0x1002, 4);
+    timing_060_image_write(&t, image, sizeof image);
+    image[0] = 0x04, image[1] = 0x05, image[2] = 16;
+    timing_060_ran ran = timing_060_image_read(&t, image, sizeof image);
+    expect(is(ran, TIMING_060_REFUSED_IMAGE_HEADER, 0, 0, 0), "an old header on an image");
+    ran = timing_060_image_read(&t, image, TIMING_060_OLD_IMAGE_BYTES);
+    expect(is(ran, ACCEPTED, 0, 0, 0), "an old image");
+    expect(t.window[TIMING_060_WINDOW_DEFS] == 1 && head_is(t, true, 0, 0), "its head");
+    timing_060_image_write(&t, image, sizeof image);
+    expect(image[0] == 0x0A && image[1] == 0x05 && image[2] == 17 && image[3] == 0, "its header, written again");
+    for (int i = TIMING_060_OLD_IMAGE_BYTES; i < TIMING_060_IMAGE_BYTES; i++)
+        expect(image[i] == 0, "its head, written again");
 }
 
 // The functions that the others stand on.
@@ -93,6 +130,8 @@ static int host(void) {
     steps();
     profiles();
     runs();
+    heads();
+    old_image();
     lent();
     if (failures == 0) print("calls hold\n");
     return failures != 0;

@@ -18,13 +18,17 @@ static void print_opcode(uint16_t op) {
     put(s, 4);
 }
 
+static int same_window(const timing_060 *a, const timing_060 *b) {
+    for (int i = 0; i < TIMING_060_WINDOW; i++)
+        if (a->window[i] != b->window[i]) return 0;
+    return 1;
+}
+
 /* What an image has of two states: the profile is not in it. */
 static int same_state(const timing_060 *a, const timing_060 *b) {
     for (int i = 0; i < TIMING_060_SLOTS; i++)
         if (a->tags[i] != b->tags[i] || a->state[i] != b->state[i]) return 0;
-    for (int i = 0; i < TIMING_060_WINDOW; i++)
-        if (a->window[i] != b->window[i]) return 0;
-    return 1;
+    return same_window(a, b);
 }
 
 enum {
@@ -39,7 +43,13 @@ enum {
     CUT = TIMING_060_REFUSED_CUT,
     FLAG = TIMING_060_REFUSED_FLAG,
     ROOM = TIMING_060_REFUSED_ROOM,
-    IMAGE = TIMING_060_IMAGE_BYTES
+    LENGTH = TIMING_060_REFUSED_IMAGE_LENGTH,
+    HEADER = TIMING_060_REFUSED_IMAGE_HEADER,
+    NO_WINDOW = TIMING_060_REFUSED_IMAGE_WINDOW,
+    /* an image as it is written, and an old one; where the window starts in both */
+    IMAGE = TIMING_060_IMAGE_BYTES,
+    OLD = TIMING_060_OLD_IMAGE_BYTES,
+    WINDOW_AT = 1284
 };
 
 /* The worked trace: as an emulator has it, and as the bytes of a trace. */
@@ -82,7 +92,8 @@ static void step_by_step(timing_060 *t) {
 
 /* A refused trace or batch writes no number, not even those of a window that is read as another's. */
 static void refused_writes_nothing(uint8_t *bytes, uint32_t *places) {
-    static const uint16_t WINDOWS[2][TIMING_060_WINDOW] = {{2, 0, 5, 0, 9}, {0, 1, 3, 0, 0xFFFF}};
+    static const uint16_t WINDOWS[2][TIMING_060_WINDOW] = {{2, 0, 5, 0, 9, 0x7000, 0x1000, 1},
+                                                           {0, 1, 3, 0, 0xFFFF, 0x7000, 0x1000, 1}};
     static timing_060 t, given;
     timing_060_ran ran;
     for (int w = 0; w < 2; w++) {
@@ -130,48 +141,200 @@ static void runs(const timing_060 *stepped) {
     expect(is(ran, ROOM, 0, 0, 0), "the refusal of a batch with too few places");
 }
 
-/* The state saved and read back; a refused image gives a fresh state. */
-static void images(const timing_060 *kept) {
+static uint32_t retire_one(timing_060 *t, const timing_060_record *r) {
+    return timing_060_retire(t, r->op, r->flags, r->ppc, r->pc, r->raw);
+}
+
+static const uint8_t ZEROS[IMAGE] = {0};
+
+static int same_bytes(const uint8_t *a, const uint8_t *b, int from, int to) {
+    for (int i = from; i < to; i++)
+        if (a[i] != b[i]) return 0;
+    return 1;
+}
+
+/* The header of an image: the length of what follows it, and its kind. */
+static void put_header(uint8_t *image, unsigned payload, unsigned kind) {
+    image[0] = (uint8_t)payload, image[1] = (uint8_t)(payload >> 8);
+    image[2] = (uint8_t)kind, image[3] = (uint8_t)(kind >> 8);
+}
+
+/* An image of kind 16 is one of kind 17 without the head: read, the head is 0 at 0, and written again the six bytes
+ * are zeros. What follows costs the same. */
+static void old_image(const timing_060 *kept, const uint8_t *image) {
+    static timing_060 t, nameless, named;
+    static uint8_t old[OLD], again[IMAGE];
+    named = nameless = *kept;
+    for (int i = TIMING_060_WINDOW_OPCODE; i < TIMING_060_WINDOW; i++) nameless.window[i] = 0;
+    for (int i = 0; i < OLD; i++) old[i] = image[i];
+    put_header(old, OLD - 4, 16);
+    expect(is(timing_060_image_read(&t, old, OLD), OK, 0, 0, 0), "what reading an old image gives");
+    expect(same_state(&t, &nameless), "the state of an old image");
+    expect(is(timing_060_image_write(&t, again, IMAGE), OK, 0, IMAGE, 0), "what writing it again gives");
+    expect(same_bytes(again, image, 0, OLD) && same_bytes(again, ZEROS, OLD, IMAGE), "the image written again");
+    expect(retire_one(&t, &WORKED[1]) == retire_one(&named, &WORKED[1]), "the clocks from an old image");
+    expect(same_state(&t, &named), "the state that follows an old image");
+}
+
+/* A refused image gives a fresh state. */
+static void refused_image(const uint8_t *image, uint64_t bytes, uint64_t refusal, const char *what) {
     static timing_060 t, fresh;
-    static uint8_t image[IMAGE];
+    for (int i = 0; i < TIMING_060_WINDOW; i++) t.window[i] = t.state[i] = 1;
+    expect(is(timing_060_image_read(&t, image, bytes), refusal, refusal == NO_WINDOW ? WINDOW_AT : 0, 0, 0), what);
+    expect(same_state(&t, &fresh), "the state of a refused image");
+}
+
+/* Lengths of no kind, under the header of either. */
+static void wrong_lengths(uint8_t *image) {
+    static const uint64_t LENGTHS[] = {0, 3, OLD - 1, OLD + 1, IMAGE - 1, IMAGE + 1};
+    for (size_t i = 0; i < sizeof LENGTHS / sizeof LENGTHS[0]; i++) {
+        put_header(image, OLD - 4, 16);
+        refused_image(image, LENGTHS[i], LENGTH, "the refusal of a length under the old header");
+        put_header(image, IMAGE - 4, 17);
+        refused_image(image, LENGTHS[i], LENGTH, "the refusal of a length");
+    }
+}
+
+/* Headers that do not match the length: those of the other kind, and of none. */
+static void wrong_headers(uint8_t *image) {
+    static const struct {
+        uint64_t bytes;
+        unsigned payload, kind;
+    } HEADERS[] = {
+        {IMAGE, OLD - 4, 16},   {IMAGE, OLD - 4, 17},         {IMAGE, IMAGE - 4, 16}, {IMAGE, IMAGE - 3, 17},
+        {IMAGE, IMAGE - 4, 18}, {IMAGE, IMAGE - 4, 256 + 17}, {OLD, IMAGE - 4, 17},   {OLD, IMAGE - 4, 16},
+        {OLD, OLD - 4, 17},     {OLD, OLD - 3, 16},           {OLD, OLD - 4, 15},     {OLD, OLD - 4, 256 + 16},
+    };
+    for (size_t i = 0; i < sizeof HEADERS / sizeof HEADERS[0]; i++) {
+        put_header(image, HEADERS[i].payload, HEADERS[i].kind);
+        refused_image(image, HEADERS[i].bytes, HEADER, "the refusal of a header");
+    }
+}
+
+/* Open above 1, a bit above 2, and of a shut window, in an image of each kind, a byte that is not 0. */
+static void wrong_windows(uint8_t *image, int bytes, unsigned kind) {
+    static timing_060 t;
+    put_header(image, (unsigned)bytes - 4, kind);
+    for (int i = WINDOW_AT; i < bytes; i++) image[i] = 0;
+    expect(is(timing_060_image_read(&t, image, (uint64_t)bytes), OK, 0, 0, 0), "the image of a shut window");
+    for (int i = WINDOW_AT; i < bytes; i++) {
+        image[i] = i == WINDOW_AT ? 2 : 1;
+        refused_image(image, (uint64_t)bytes, NO_WINDOW, "the refusal of a window that is none");
+        image[i] = 0;
+    }
+    image[WINDOW_AT] = 1, image[WINDOW_AT + 3] = 8;
+    refused_image(image, (uint64_t)bytes, NO_WINDOW, "the refusal of a bit above 2");
+}
+
+/* The state saved and read back, and what is refused. */
+static void images(const timing_060 *kept) {
+    static timing_060 t;
+    static uint8_t image[IMAGE + 1];
+    image[0] = image[IMAGE] = 99;
     timing_060_ran ran = timing_060_image_write(kept, image, IMAGE - 1);
-    expect(is(ran, ROOM, 0, 0, 0), "the refusal of an image with too little room");
-    ran = timing_060_image_write(kept, image, IMAGE);
+    expect(is(ran, ROOM, 0, 0, 0) && image[0] == 99, "the refusal of an image with too little room");
+    ran = timing_060_image_write(kept, image, IMAGE + 1);
     expect(is(ran, OK, 0, IMAGE, 0), "what image writing gives");
+    expect(image[IMAGE] == 99, "the byte beyond the image");
     ran = timing_060_image_read(&t, image, IMAGE);
     expect(is(ran, OK, 0, 0, 0), "what image reading gives");
     expect(same_state(&t, kept), "the state read back");
-    ran = timing_060_image_read(&t, image, IMAGE - 1);
-    expect(is(ran, TIMING_060_REFUSED_IMAGE_LENGTH, 0, 0, 0), "the refusal of a short image");
-    expect(same_state(&t, &fresh), "the state of a refused image");
-    image[0] ^= 1;
-    ran = timing_060_image_read(&t, image, IMAGE);
-    expect(is(ran, TIMING_060_REFUSED_IMAGE_HEADER, 0, 0, 0), "the refusal of another header");
-    image[0] ^= 1;
-    image[1287] = 8;
-    ran = timing_060_image_read(&t, image, IMAGE);
-    expect(is(ran, TIMING_060_REFUSED_IMAGE_WINDOW, 1284, 0, 0), "the refusal of a window that is none");
+    old_image(kept, image);
+    wrong_lengths(image);
+    wrong_headers(image);
+    wrong_windows(image, IMAGE, 17);
+    wrong_windows(image, OLD, 16);
 }
 
-/* The window's five numbers. */
+/* The window's numbers but for the head's opcode and address. */
 static int window_is(const timing_060 *t, int open, int defs, int ccr, int memory, int cached) {
     return t->window[TIMING_060_WINDOW_OPEN] == open && t->window[TIMING_060_WINDOW_DEFS] == defs &&
            t->window[TIMING_060_WINDOW_CCR] == ccr && t->window[TIMING_060_WINDOW_MEMORY] == memory &&
            t->window[TIMING_060_WINDOW_CACHED] == cached;
 }
 
-/* The window: any number but 0 is yes, and of a shut one the others are left as zeros. */
+/* The head as the functions have it. */
+static int head_is(const timing_060 *t, int open, uint16_t op, uint32_t address) {
+    return timing_060_has_head(t) == open && timing_060_head_opcode(t) == op && timing_060_head_address(t) == address;
+}
+
+/* A shut window: eight zeros, and no head. */
+static int is_shut(const timing_060 *t) {
+    static timing_060 fresh;
+    return same_window(t, &fresh) && head_is(t, 0, 0, 0);
+}
+
+static void put_window(timing_060 *t, const uint16_t *numbers) {
+    for (int i = 0; i < TIMING_060_WINDOW; i++) t->window[i] = numbers[i];
+}
+
+/* The window: any number but 0 is yes, and of a shut one the others are read and left as zeros. */
 static void windows(void) {
     static timing_060 t;
-    static const uint16_t HEAD[TIMING_060_WINDOW] = {2, 1, 3, 0, 0xFFFF};
-    static const uint16_t SHUT[TIMING_060_WINDOW] = {0, 1, 3, 0, 0xFFFF};
-    for (int i = 0; i < TIMING_060_WINDOW; i++) t.window[i] = HEAD[i];
+    static uint8_t image[IMAGE];
+    static const uint16_t HEAD[TIMING_060_WINDOW] = {2, 1, 3, 0, 0xFFFF, 0xFFFF, 0xFFFE, 0xFFFF};
+    static const uint16_t SHUT[TIMING_060_WINDOW] = {0, 1, 3, 0, 0xFFFF, 0xFFFF, 0xFFFE, 0xFFFF};
+    put_window(&t, HEAD);
+    expect(head_is(&t, 1, 0xFFFF, 0xFFFFFFFE), "the head of an open window");
     timing_060_clear_all(&t);
     expect(window_is(&t, 1, 1, 1, 0, 1), "an open window");
+    expect(head_is(&t, 1, 0xFFFF, 0xFFFFFFFE), "its head");
     expect(timing_060_retire(&t, 0x7200, KEPT, 0, 2, 4) == 0, "the clocks behind an open window");
-    for (int i = 0; i < TIMING_060_WINDOW; i++) t.window[i] = SHUT[i];
+    put_window(&t, SHUT);
+    expect(head_is(&t, 0, 0, 0), "the head of a shut window");
+    timing_060_image_write(&t, image, IMAGE);
+    expect(same_bytes(image, ZEROS, WINDOW_AT, IMAGE), "a shut window in an image");
     timing_060_clear_user(&t);
-    expect(window_is(&t, 0, 0, 0, 0, 0), "a shut window");
+    expect(is_shut(&t), "a shut window");
+    put_window(&t, SHUT);
+    timing_060_run_trace(&t, NULL, 0, NULL, 0);
+    expect(is_shut(&t), "a shut window after no trace");
+    put_window(&t, SHUT);
+    timing_060_run_batch(&t, NULL, 0, NULL, 0);
+    expect(is_shut(&t), "a shut window after no batch");
+}
+
+/* MOVEQ #0,D0 is the head, and stays it through clears and an image. */
+static void head(timing_060 *t) {
+    static const uint8_t BYTES[6] = {0x78, 0x56, 0x34, 0x12, 0x00, 0x70};
+    static uint8_t image[IMAGE];
+    timing_060_retire(t, 0x7000, KEPT, 0x12345678, 0x1234567A, 4);
+    expect(window_is(t, 1, 1, 1, 0, 1) && head_is(t, 1, 0x7000, 0x12345678), "the head MOVEQ");
+    timing_060_clear_user(t);
+    timing_060_clear_all(t);
+    expect(head_is(t, 1, 0x7000, 0x12345678), "the head after clears");
+    timing_060_image_write(t, image, IMAGE);
+    expect(same_bytes(image + OLD, BYTES, 0, 6), "the head in an image");
+    timing_060_break(t);
+    expect(is_shut(t), "no head after a break");
+    timing_060_image_read(t, image, IMAGE);
+    expect(head_is(t, 1, 0x7000, 0x12345678), "the head from an image");
+}
+
+/* The next head, or none. */
+static void next_heads(void) {
+    static const timing_060_record SHUTTING[] = {
+        {0x7200, KEPT, 0x1002, 0x1004, 4},   /* MOVEQ #0,D1, which pairs */
+        {0x60FE, TAKEN, 0x1002, 0x1002, 10}, /* BRA */
+        {0x4E75, TAKEN, 0x1002, 0x2000, 16}, /* RTS, another change of flow */
+        {0xD1C0, KEPT, 0x1002, 0x1004, 8},   /* ADDA.L D0,A0, of class 1 */
+    };
+    static timing_060 t;
+    static uint8_t bytes[TIMING_060_COST_BYTES];
+    static uint32_t place;
+    for (size_t i = 0; i < sizeof SHUTTING / sizeof SHUTTING[0]; i++) {
+        head(&t);
+        retire_one(&t, &SHUTTING[i]);
+        expect(is_shut(&t), "no head after what shuts the window");
+    }
+    head(&t);
+    timing_060_retire(&t, 0x7001, KEPT, 0xFFFFFFFE, 0, 4); /* MOVEQ #1,D0, which does not pair */
+    expect(head_is(&t, 1, 0x7001, 0xFFFFFFFE), "the head behind a head");
+    timing_060_run_trace(&t, WORKED_BYTES, TIMING_060_RECORD_BYTES, bytes, sizeof bytes);
+    expect(head_is(&t, 1, 0x7000, 0x1000), "the head after a trace");
+    head(&t);
+    timing_060_run_batch(&t, WORKED, 1, &place, 1);
+    expect(head_is(&t, 1, 0x7000, 0x1000), "the head after a batch");
 }
 
 /* An RTS that flowed, with a raw count below 0, and flag bits above bit 4: not looked at, but in a trace refused. */
@@ -193,10 +356,6 @@ static const uint8_t OVER_PAIRED_BYTES[2 * TIMING_060_RECORD_BYTES] = {
     0x10, 0, 1, 0, 0x01, 0x34, 0x1E, 0, 0x02, 0x10, 0, 0, 0x04, 0x10, 0, 0, 4, 0, 0, 0,
 };
 
-static uint32_t retire_one(timing_060 *t, const timing_060_record *r) {
-    return timing_060_retire(t, r->op, r->flags, r->ppc, r->pc, r->raw);
-}
-
 /* The profiles as numbers: 1 is the mended one, any other the crate's. */
 enum { NUMBERS = 5 };
 static const uint32_t NUMBER[NUMBERS] = {CRATE, MENDED, 2, 0x10001, 0xFFFFFFFF};
@@ -211,6 +370,7 @@ static void profiles(void) {
         timing_060_fresh(&t, profile);
         expect(retire_one(&t, &OVER_PAIRED[0]) == 1, "the clocks of EOR");
         expect(window_is(&t, 1, profile == MENDED ? 2 : 0, 1, 0, 1), "the window behind EOR");
+        expect(head_is(&t, 1, 0xB141, 0x1000), "the head EOR");
         timing_060_image_write(&t, image, IMAGE);
         expect(retire_one(&t, &OVER_PAIRED[1]) == second, "the clocks behind EOR");
         timing_060_image_read(&t, image, IMAGE);
@@ -285,9 +445,10 @@ static int host(void) {
     t.state[7] = 12;
     timing_060_retire(&t, 0x7000, KEPT, 0x2000, 0x2002, 4);
     expect(window_is(&t, 1, 1, 1, 0, 1), "the window behind MOVEQ #0,D0");
+    expect(head_is(&t, 1, 0x7000, 0x2000), "the head MOVEQ #0,D0");
     images(&t);
     timing_060_break(&t);
-    expect(window_is(&t, 0, 0, 0, 0, 0), "the window after a break");
+    expect(is_shut(&t), "the window after a break");
     expect(t.tags[2] == 0x1004 && t.state[2] == 7 && t.state[7] == 12, "the cache after a break");
     images(&t);
     timing_060_clear_user(&t);
@@ -295,6 +456,7 @@ static int host(void) {
     timing_060_clear_all(&t);
     expect(t.state[2] == 0 && t.tags[2] == 0x1004, "the slots after a clear of all");
     windows();
+    next_heads();
     flags(&t);
     profiles();
     opcodes();

@@ -1,6 +1,6 @@
-/* The limits of traces and batches, with buffers that no Rattle program can hold, and canaries around what is lent to
- * be written; and NULL for a count of 0. All in either profile. Prints `limits hold`, or what differs; then its exit
- * status is 1. Compiled as example.c is. */
+/* The limits of traces, batches and images, with buffers that no Rattle program can hold, and canaries around what is
+ * lent to be written; and NULL for a count of 0. All in either profile. Prints `limits hold`, or what differs; then its
+ * exit status is 1. Compiled as example.c is. */
 #include <timing_060.h>
 
 #include "system.h"
@@ -73,6 +73,17 @@ static void batches(uint32_t profile) {
     expect(places_stay(16, 16 + RECORDS), "the places around a batch's costs");
 }
 
+/* An image, in a byte too little room and in more than it needs. */
+static void images(void) {
+    fill();
+    timing_060_ran ran = timing_060_image_write(&t, bytes + 16, TIMING_060_IMAGE_BYTES - 1);
+    expect(is(ran, TIMING_060_REFUSED_ROOM, 0, 0, 0), "1,293 bytes for an image");
+    expect(bytes_stay(0, 0), "lent bytes of a refused image");
+    ran = timing_060_image_write(&t, bytes + 16, TIMING_060_IMAGE_BYTES + 16);
+    expect(is(ran, 0, 0, TIMING_060_IMAGE_BYTES, 0), "an image");
+    expect(bytes_stay(16, 16 + TIMING_060_IMAGE_BYTES), "the bytes around an image");
+}
+
 /* A pointer with a count of 0 is not followed. */
 static void nothing_lent(void) {
     timing_060_ran ran = timing_060_run_trace(&t, NULL, 0, NULL, 0);
@@ -97,6 +108,7 @@ static int host(void) {
     for (uint32_t profile = 0; profile < 2; profile++) {
         traces(profile);
         batches(profile);
+        images();
         nothing_lent();
     }
     if (failures == 0) print("limits hold\n");

@@ -17,6 +17,9 @@ static uint32_t places[INSTRUCTIONS];
 static uint8_t image[TIMING_060_IMAGE_BYTES];
 static volatile uint64_t given; /* so that no call is left out */
 
+/* A fresh state as an image of kind 16. */
+static const uint8_t old_image[TIMING_060_OLD_IMAGE_BYTES] = {0x04, 0x05, 16};
+
 static uint64_t used(void (*call)(void)) {
     uint64_t i = 0;
     for (; i < DEEP; i++) stack[i] = PAINT;
@@ -70,7 +73,12 @@ static void run_batch(void) {
     }
 }
 static void image_write(void) { given = timing_060_image_write(&t, image, sizeof image).count; }
-static void image_read(void) { given = timing_060_image_read(&t, image, sizeof image).refusal; }
+static void image_read(void) {
+    given = timing_060_image_read(&t, image, sizeof image).refusal;
+    expect(given == TIMING_060_ACCEPTED, "the image that was written");
+    given = timing_060_image_read(&t, old_image, sizeof old_image).refusal;
+    expect(given == TIMING_060_ACCEPTED, "an image of kind 16");
+}
 
 static const struct {
     const char *name;

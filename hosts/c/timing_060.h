@@ -7,9 +7,9 @@
 #include <stddef.h>
 #include <stdint.h>
 
-#define TIMING_060_VERSION "0.3.0"
+#define TIMING_060_VERSION "0.4.0"
 #define TIMING_060_VERSION_MAJOR 0
-#define TIMING_060_VERSION_MINOR 3
+#define TIMING_060_VERSION_MINOR 4
 #define TIMING_060_VERSION_PATCH 0
 
 /* The limits. */
@@ -17,9 +17,10 @@
 #define TIMING_060_BATCH_RECORDS 1048576 /* the most records of a batch */
 #define TIMING_060_RECORD_BYTES 20       /* a retirement in a trace, with its header of 4 bytes */
 #define TIMING_060_COST_BYTES 4          /* the room that a retirement of a trace needs for its clocks */
-#define TIMING_060_IMAGE_BYTES 1288      /* a state as an image */
+#define TIMING_060_IMAGE_BYTES 1294      /* a state as an image, of kind 17 */
+#define TIMING_060_OLD_IMAGE_BYTES 1288  /* an image of kind 16, which is still read */
 #define TIMING_060_SLOTS 256             /* the slots of the branch cache */
-#define TIMING_060_WINDOW 5              /* the numbers of the window */
+#define TIMING_060_WINDOW 8              /* the numbers of the window */
 
 #ifdef __cplusplus
 extern "C" {
@@ -31,8 +32,9 @@ enum {
     TIMING_060_PROFILE_MENDED = 1 /* seven kinds of instruction are mended: docs/HOST.md */
 };
 
-/* The state that a host keeps. All zeros is a fresh state of the crate's profile. In the window anything but 0 is yes;
- * of a shut window the other four numbers are read, and by whatever is accepted left, as zeros. */
+/* The state that a host keeps. All zeros is a fresh state of the crate's profile. In the window's yes-or-no numbers
+ * anything but 0 is yes; of a shut window the other seven numbers are read, and by whatever is accepted left, as
+ * zeros. */
 typedef struct timing_060 {
     uint32_t tags[TIMING_060_SLOTS];
     uint8_t state[TIMING_060_SLOTS];
@@ -40,13 +42,16 @@ typedef struct timing_060 {
     uint32_t profile; /* set by timing_060_fresh, and by no other function */
 } timing_060;
 
-/* The five numbers of the window. */
+/* The eight numbers of the window. Opcode and address say which instruction the head is; no clocks depend on them. */
 enum {
-    TIMING_060_WINDOW_OPEN = 0,   /* a head waits for a second instruction */
-    TIMING_060_WINDOW_DEFS = 1,   /* the registers that the head writes: a mask, not yes or no */
-    TIMING_060_WINDOW_CCR = 2,    /* it defines the CCR */
-    TIMING_060_WINDOW_MEMORY = 3, /* it accesses memory */
-    TIMING_060_WINDOW_CACHED = 4  /* its opcode came from the instruction cache */
+    TIMING_060_WINDOW_OPEN = 0,        /* a head waits for a second instruction */
+    TIMING_060_WINDOW_DEFS = 1,        /* the registers that the head writes: a mask, not yes or no */
+    TIMING_060_WINDOW_CCR = 2,         /* it defines the CCR */
+    TIMING_060_WINDOW_MEMORY = 3,      /* it accesses memory */
+    TIMING_060_WINDOW_CACHED = 4,      /* its opcode came from the instruction cache */
+    TIMING_060_WINDOW_OPCODE = 5,      /* its opcode */
+    TIMING_060_WINDOW_ADDRESS_LOW = 6, /* its address, the ppc: bits 0 to 15 */
+    TIMING_060_WINDOW_ADDRESS_HIGH = 7 /* bits 16 to 31 */
 };
 
 /* The flags of a retirement. Bits above these five are not looked at by timing_060_retire and timing_060_run_batch;
@@ -78,9 +83,9 @@ enum {
     TIMING_060_REFUSED_CUT = 5,          /* the record's payload is cut */
     TIMING_060_REFUSED_FLAG = 6,         /* a flag above bit 4 is set */
     TIMING_060_REFUSED_ROOM = 7,         /* too little room was lent; place: a trace's length, else 0 */
-    TIMING_060_REFUSED_IMAGE_LENGTH = 8, /* the image is not 1,288 bytes long; place 0 */
-    TIMING_060_REFUSED_IMAGE_HEADER = 9, /* its header is wrong; place 0 */
-    TIMING_060_REFUSED_IMAGE_WINDOW = 10 /* its window is none that a state can have; place 1,284 */
+    TIMING_060_REFUSED_IMAGE_LENGTH = 8, /* the image is neither 1,288 nor 1,294 bytes long; place 0 */
+    TIMING_060_REFUSED_IMAGE_HEADER = 9, /* its header does not match its length; place 0 */
+    TIMING_060_REFUSED_IMAGE_WINDOW = 10 /* its window, head included, is none that a state can have; place 1,284 */
 };
 
 /* What a run gives. A refusal is TIMING_060_ACCEPTED where there is none, else what it is, with its place; then count
@@ -127,11 +132,11 @@ typedef struct timing_060_words_mut {
 #endif
 #define TIMING_060_SIZE(type, bytes) TIMING_060_HOLDS(size_of_##type, sizeof(type) == (bytes))
 #define TIMING_060_AT(type, field, place) TIMING_060_HOLDS(place_of_##type##_##field, offsetof(type, field) == (place))
-TIMING_060_SIZE(timing_060, 1296);
+TIMING_060_SIZE(timing_060, 1300);
 TIMING_060_AT(timing_060, tags, 0);
 TIMING_060_AT(timing_060, state, 1024);
 TIMING_060_AT(timing_060, window, 1280);
-TIMING_060_AT(timing_060, profile, 1292);
+TIMING_060_AT(timing_060, profile, 1296);
 TIMING_060_SIZE(timing_060_record, 16);
 TIMING_060_AT(timing_060_record, op, 0);
 TIMING_060_AT(timing_060_record, flags, 2);
@@ -213,6 +218,17 @@ static inline void timing_060_break(timing_060 *t) { timing_060_break_at(t->wind
 static inline void timing_060_clear_all(timing_060 *t) { timing_060_clear_all_at(t->state, t->window); }
 static inline void timing_060_clear_user(timing_060 *t) { timing_060_clear_user_at(t->state, t->window); }
 
+/* Which instruction is the head: whether there is one, its opcode and its address (ppc). A shut window has no head, and
+ * opcode and address are then 0, whatever its numbers are. */
+static inline int timing_060_has_head(const timing_060 *t) { return t->window[TIMING_060_WINDOW_OPEN] != 0; }
+static inline uint16_t timing_060_head_opcode(const timing_060 *t) {
+    return timing_060_has_head(t) ? t->window[TIMING_060_WINDOW_OPCODE] : 0;
+}
+static inline uint32_t timing_060_head_address(const timing_060 *t) {
+    const uint32_t low = t->window[TIMING_060_WINDOW_ADDRESS_LOW], high = t->window[TIMING_060_WINDOW_ADDRESS_HIGH];
+    return timing_060_has_head(t) ? high << 16 | low : 0;
+}
+
 /* A trace into 4 bytes a retirement, little-endian. A flag bit above the five refuses the trace:
  * TIMING_060_REFUSED_FLAG, at the record's start. */
 static inline timing_060_ran timing_060_run_trace(timing_060 *t, const uint8_t *trace, uint64_t bytes, uint8_t *costs,
@@ -231,14 +247,15 @@ static inline timing_060_ran timing_060_run_batch(timing_060 *t, const timing_06
     return timing_060_run_batch_at(s, c, t->tags, t->state, t->window, t->profile);
 }
 
-/* The state's image, 1,288 bytes: `count` is how many were written. */
+/* The state's image, 1,294 bytes of kind 17: `count` is how many were written. */
 static inline timing_060_ran timing_060_image_write(const timing_060 *t, uint8_t *image, uint64_t room) {
     timing_060_bytes_mut c = {image, room};
     return timing_060_image_write_at(t->tags, t->state, t->window, c);
 }
 
-/* The state of an image; a refused image gives a fresh state. An image does not carry the profile: the one that `t` has
- * stays, so a new `t` goes through timing_060_fresh first. */
+/* The state of an image, of kind 17 or 16; a refused image gives a fresh state. Kind 16 does not say which instruction
+ * is the head: where the window is open it is 0 at 0. An image does not carry the profile: the one that `t` has stays,
+ * so a new `t` goes through timing_060_fresh first. */
 static inline timing_060_ran timing_060_image_read(timing_060 *t, const uint8_t *image, uint64_t bytes) {
     timing_060_bytes s = {image, bytes};
     return timing_060_image_read_at(s, t->tags, t->state, t->window);

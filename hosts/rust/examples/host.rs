@@ -1,6 +1,7 @@
 //! A host that retires the four instructions of document 01's worked trace, saves its state and goes on from it, and
-//! prints what the cost lister prints. Then it holds the two profiles against each other, and prints nothing.
-use timing_060::{Flags, Profile, Refused, Retirement, Timing060};
+//! prints what the cost lister prints. It looks which instruction is the head, and holds the two profiles against each
+//! other, and prints nothing of it.
+use timing_060::{Flags, Head, Profile, Refused, Retirement, Timing060};
 
 /// The clocks of MOVE.W D1,D2 behind EOR.W D0,D1, which writes D1: only the crate's profile pairs the two.
 fn behind_eor(profile: Profile, flags: Flags) -> u32 {
@@ -25,6 +26,8 @@ fn main() -> Result<(), Refused> {
         let clocks = timing.retire(r);
         total += u64::from(clocks);
         println!("{i} {:04X} {clocks}", r.op);
+        // The first is the head, the second pairs with it, and branches are none.
+        assert_eq!(timing.head(), (i == 0).then_some(Head { op: r.op, address: r.ppc }));
         if i == 1 {
             // A break, and the state through an image: neither changes what follows, since the window is shut here.
             timing.break_pipeline();

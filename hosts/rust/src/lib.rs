@@ -3,8 +3,8 @@
 //! [`Timing060`] is the timing state that an emulator keeps beside its CPU: a branch cache of 256 slots and the pairing
 //! window, in a [`Profile`] that is chosen at start. Each retired instruction goes through [`Timing060::retire`], which
 //! answers its clocks. The work is done by a library whose every function is proved to meet its contract,
-//! libtiming_060.a; this crate adds the calls and nothing else. It cannot be misused: every state, instruction, trace
-//! and image has an answer or a [`Refusal`].
+//! libtiming_060.a; this crate adds the calls, and itself reads only the head ([`Timing060::head`]). It cannot be
+//! misused: every state, instruction, trace and image has an answer or a [`Refusal`].
 //!
 //! The library is for x86-64 Linux. On other targets this crate is checked and documented, but nothing can be linked.
 //!
@@ -31,8 +31,10 @@ pub const BATCH_RECORDS: usize = 1_048_576;
 pub const RECORD_BYTES: usize = 20;
 /// The room that a retirement of a trace needs for its clocks.
 pub const COST_BYTES: usize = 4;
-/// A state as an image.
-pub const IMAGE_BYTES: usize = 1288;
+/// A state as an image, of kind 17.
+pub const IMAGE_BYTES: usize = 1294;
+/// An image of kind 16, which is still read.
+pub const OLD_IMAGE_BYTES: usize = 1288;
 
 /// The timing profile, chosen at start: what the opcodes are to the pairing window. States have one, images and traces
 /// have none.
@@ -127,7 +129,18 @@ pub struct Masks {
     pub defs: u16,
 }
 
+/// Which instruction is the head: it waits in the pairing window for a second one. No clocks depend on this.
+#[derive(Clone, Copy, Debug, PartialEq, Eq)]
+pub struct Head {
+    /// Its opcode word.
+    pub op: u16,
+    /// Where it stood: its `ppc`.
+    pub address: u32,
+}
+
 /// The timing state of a 68060.
+///
+/// `==` compares the head's opcode and address, too, though no clocks depend on them.
 #[derive(Clone, Debug, PartialEq, Eq)]
 pub struct Timing060 {
     tags: sys::Tags,
@@ -147,7 +160,7 @@ impl Default for Timing060 {
 impl Timing060 {
     /// A fresh state of a profile.
     pub fn new(profile: Profile) -> Self {
-        let mut t = Timing060 { tags: [0; 256], state: [0; 256], window: [0; 5], profile };
+        let mut t = Timing060 { tags: [0; 256], state: [0; 256], window: [0; 8], profile };
         unsafe { sys::timing_060_fresh_at(&mut t.tags, &mut t.state, &mut t.window) };
         t
     }
@@ -155,6 +168,12 @@ impl Timing060 {
     /// The profile that was chosen.
     pub fn profile(&self) -> Profile {
         self.profile
+    }
+
+    /// The head of the pairing window; none where the window is shut.
+    pub fn head(&self) -> Option<Head> {
+        let [open, _, _, _, _, op, low, high] = self.window;
+        (open != 0).then_some(Head { op, address: u32::from(high) << 16 | u32::from(low) })
     }
 
     /// One retired instruction: its clocks.
@@ -196,7 +215,7 @@ impl Timing060 {
         answer(unsafe { sys::timing_060_run_batch_at(s, c, tags, state, window, self.profile as u32) })
     }
 
-    /// The state as bytes, but for the profile.
+    /// The state as bytes, but for the profile: an image of kind 17.
     pub fn image(&self) -> [u8; IMAGE_BYTES] {
         let mut image = [0; IMAGE_BYTES];
         let room = sys::Lent::of(&mut image);
@@ -204,7 +223,8 @@ impl Timing060 {
         image
     }
 
-    /// The state of an image, in a profile: the image does not carry it.
+    /// The state of an image, in a profile: the image does not carry it. An image of kind 16, [`OLD_IMAGE_BYTES`] long,
+    /// does not say which instruction is the head: where the window is open it is 0 at 0.
     pub fn from_image(image: &[u8], profile: Profile) -> Result<Self, Refused> {
         let mut t = Self::new(profile);
         let s = sys::Shared::of(image);

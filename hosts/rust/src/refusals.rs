@@ -20,11 +20,13 @@ pub enum Refusal {
     Flag = 6,
     /// Too little room was lent.
     Room = 7,
-    /// The image is not 1,288 bytes long.
+    /// The image is neither 1,288 nor 1,294 bytes long.
     ImageLength = 8,
-    /// The image's header is wrong.
+    /// The image's header does not match its length: payload length 1,284 and kind 16 for 1,288 bytes, 1,290 and 17
+    /// for 1,294.
     ImageHeader = 9,
-    /// The image's window is not one that a state can have: open above 1, a bit above 2, or shut and not zero.
+    /// The image's window is not one that a state can have: open above 1, a bit above 2, or shut and not zero, the
+    /// head's address and opcode included.
     ImageWindow = 10,
 }
 
@@ -62,8 +64,8 @@ impl fmt::Display for Refusal {
             Refusal::Cut => "the record's payload is cut",
             Refusal::Flag => "a flag above bit 4 is set",
             Refusal::Room => "too little room was lent",
-            Refusal::ImageLength => "the image is not 1,288 bytes long",
-            Refusal::ImageHeader => "the image's header is wrong",
+            Refusal::ImageLength => "the image is neither 1,288 nor 1,294 bytes long",
+            Refusal::ImageHeader => "the image's header does not match its length",
             Refusal::ImageWindow => "the image's window is not one that a state can have",
         })
     }

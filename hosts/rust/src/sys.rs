@@ -44,7 +44,7 @@ pub struct HostMasks {
 
 pub type Tags = [u32; 256];
 pub type Slots = [u8; 256];
-pub type Window = [u16; 5];
+pub type Window = [u16; 8];
 
 // The structs as the library has them: sizes and offsets; that each field holds what it says is seen by the tests.
 const _: () = {

@@ -117,6 +117,53 @@ fn trace_and_refusals() {
     assert_eq!((t, costs), (before, all));
 }
 
+/// MOVEQ is the head through clears and images; what does not pair is the next head, and what shuts the window leaves
+/// none.
+#[test]
+fn heads() {
+    let [moveq, pairing, branch, _] = program();
+    let first = Retirement { ppc: 0x1234_5678, pc: 0x1234_567A, ..moveq };
+    let rts = Retirement { op: 0x4E75, ..branch };
+    let class_1 = Retirement { op: 0xD1C0, ..pairing };
+    let head = |r: Retirement| Some(Head { op: r.op, address: r.ppc });
+    for profile in PROFILES {
+        let mut t = Timing060::new(profile);
+        assert_eq!(t.head(), None);
+        t.retire(first);
+        assert_eq!(t.head(), head(first));
+        t.clear_user();
+        t.clear_all();
+        assert_eq!(t.head(), head(first));
+        let mut t = Timing060::from_image(&t.image(), profile).unwrap();
+        assert_eq!(t.head(), head(first));
+        for shutting in [pairing, branch, rts, class_1] {
+            let mut shut = t.clone();
+            shut.retire(shutting);
+            assert_eq!(shut.head(), None, "{:04X}", shutting.op);
+        }
+        t.retire(moveq);
+        assert_eq!(t.head(), head(moveq));
+        t.break_pipeline();
+        assert_eq!(t.head(), None);
+    }
+}
+
+/// Runs leave the head of their last retirement, and a refused one leaves the old head.
+#[test]
+fn heads_of_runs() {
+    let (mut costs, mut bytes) = ([9; 1], [9; COST_BYTES]);
+    let head = Some(Head { op: 0x7000, address: 0x1000 });
+    let mut t = Timing060::new(Profile::Crate);
+    assert!(t.run_batch(&program().map(Record::from)[..1], &mut costs).is_ok());
+    assert_eq!(t.head(), head);
+    assert!(t.run_batch(&program().map(Record::from), &mut costs).is_err());
+    assert!(t.run_trace(&TRACE, &mut bytes).is_err());
+    assert_eq!(t.head(), head);
+    t.break_pipeline();
+    assert!(t.run_trace(&TRACE[..RECORD_BYTES], &mut bytes).is_ok());
+    assert_eq!(t.head(), head);
+}
+
 #[test]
 fn images() {
     let mut t = Timing060::new(Profile::Crate);
@@ -126,20 +173,80 @@ fn images() {
     t.retire(program()[0]);
     let image = t.image();
     assert_eq!(Timing060::from_image(&image, Profile::Crate), Ok(t.clone()));
-    assert_eq!(Timing060::from_image(&image[..1287], Profile::Crate), refused(Refusal::ImageLength, 0));
-    assert_eq!(Timing060::from_image(&[], Profile::Mended), refused(Refusal::ImageLength, 0));
-    let mut other = image;
-    other[2] = 17;
-    assert_eq!(Timing060::from_image(&other, Profile::Crate), refused(Refusal::ImageHeader, 0));
-    other = image;
-    other[1284] = 2;
-    assert_eq!(Timing060::from_image(&other, Profile::Crate), refused(Refusal::ImageWindow, 1284));
+    assert_eq!(&image[..4], [0x0A, 0x05, 17, 0]);
+    assert_eq!(&image[1284..], [1, 1, 0, 5, 0x00, 0x10, 0, 0, 0x00, 0x70]);
     t.break_pipeline();
-    assert_eq!(&t.image()[1284..], [0, 0, 0, 0]);
+    assert_eq!(&t.image()[1284..], [0; 10]);
     t.clear_user();
     assert_eq!(&t.image()[..1284], &image[..1284]);
     t.clear_all();
     assert!(t.image()[1028..].iter().all(|b| *b == 0));
+}
+
+/// The first bytes of an image under another header: its payload length and its kind.
+fn headed(image: &[u8], bytes: usize, payload: u16, kind: u16) -> Vec<u8> {
+    let mut other = image[..bytes].to_vec();
+    other[..2].copy_from_slice(&payload.to_le_bytes());
+    other[2..4].copy_from_slice(&kind.to_le_bytes());
+    other
+}
+
+/// Kind 16 has no head: read it is 0 at 0, written again zeros, and what follows costs the same.
+#[test]
+fn old_images() {
+    for shut in [false, true] {
+        let mut t = Timing060::new(Profile::Crate);
+        t.retire(program()[2]);
+        t.retire(program()[0]);
+        if shut {
+            t.break_pipeline();
+        }
+        let old = headed(&t.image(), OLD_IMAGE_BYTES, 1284, 16);
+        let mut read = Timing060::from_image(&old, Profile::Crate).unwrap();
+        assert_eq!(read.head(), (!shut).then_some(Head { op: 0, address: 0 }));
+        assert_eq!(read == t, shut);
+        let mut again = t.image();
+        again[OLD_IMAGE_BYTES..].fill(0);
+        assert_eq!(read.image(), again);
+        assert_eq!(read.retire(program()[1]), t.retire(program()[1]));
+        assert_eq!(read, t);
+    }
+}
+
+#[test]
+fn refused_images() {
+    let mut t = Timing060::new(Profile::Crate);
+    t.retire(program()[0]);
+    let image = [&t.image()[..], &[0]].concat();
+    let read = |image: &[u8]| Timing060::from_image(image, Profile::Mended);
+    assert_eq!(read(&[]), refused(Refusal::ImageLength, 0));
+    for bytes in [4, 1287, 1289, 1293, 1295] {
+        assert_eq!(read(&headed(&image, bytes, 1284, 16)), refused(Refusal::ImageLength, 0), "{bytes}");
+        assert_eq!(read(&headed(&image, bytes, 1290, 17)), refused(Refusal::ImageLength, 0), "{bytes}");
+    }
+    for (bytes, payload, kind) in [(1288, 1284, 16), (1294, 1290, 17)] {
+        for (other, number) in [(1284, 16), (1284, 17), (1290, 16), (1290, 17), (payload + 1, kind), (payload, 18)] {
+            let header_wrong = (other, number) != (payload, kind);
+            let given = read(&headed(&image, bytes, other, number)).err();
+            let expected = header_wrong.then_some(Refused { refusal: Refusal::ImageHeader, place: 0 });
+            assert_eq!(given, expected, "{bytes} {other} {number}");
+        }
+        // open above 1, a bit above 2, and bytes of a shut window that are not zero, the head's included
+        let with = |open: u8, at: usize, byte: u8| {
+            let mut other = headed(&image, bytes, payload, kind);
+            other[1284..].fill(0);
+            other[1284] = open;
+            other[at] = byte;
+            other
+        };
+        assert!(read(&with(0, 1285, 0)).is_ok());
+        assert_eq!(read(&with(0, 1284, 2)), refused(Refusal::ImageWindow, 1284));
+        assert_eq!(read(&with(1, 1287, 8)), refused(Refusal::ImageWindow, 1284));
+        for at in 1285..bytes {
+            assert_eq!(read(&with(0, at, 1)), refused(Refusal::ImageWindow, 1284), "{at}");
+            assert!(read(&with(1, at, 1)).is_ok(), "{at}");
+        }
+    }
 }
 
 #[test]
@@ -162,6 +269,11 @@ fn opcodes() {
 
 #[test]
 fn an_error() {
-    let e: Box<dyn std::error::Error> = Box::new(Timing060::from_image(&[0; 1288], Profile::Crate).unwrap_err());
-    assert_eq!(e.to_string(), "refused 9 at 0: the image's header is wrong");
+    let said = |image: &[u8]| {
+        let e: Box<dyn std::error::Error> = Box::new(Timing060::from_image(image, Profile::Crate).unwrap_err());
+        e.to_string()
+    };
+    assert_eq!(said(&[0; 1289]), "refused 8 at 0: the image is neither 1,288 nor 1,294 bytes long");
+    assert_eq!(said(&[0; OLD_IMAGE_BYTES]), "refused 9 at 0: the image's header does not match its length");
+    assert_eq!(said(&[0; IMAGE_BYTES]), "refused 9 at 0: the image's header does not match its length");
 }
