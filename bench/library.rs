@@ -23,12 +23,12 @@ const CRATE: u32 = 0;
 struct State {
     tags: [u32; 256],
     state: [u8; 256],
-    window: [u16; 5],
+    window: [u16; 8],
 }
 
 const NOTHING: Ran = Ran { refusal: 0, place: 0, count: 0, total: 0 };
 
-const FRESH: State = State { tags: [0; 256], state: [0; 256], window: [0; 5] };
+const FRESH: State = State { tags: [0; 256], state: [0; 256], window: [0; 8] };
 
 pub fn single(records: &[Record], costs: &mut [u32]) -> u64 {
     let mut s = FRESH;

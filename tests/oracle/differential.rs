@@ -4,7 +4,6 @@
 //! bytes; the answer is a line: WHAT VERDICT NUMBER PLACE COUNT TOTAL LENT STATE. The lent bytes hold a pattern
 //! beforehand, so that a byte written or not shows.
 use crate::core060::cpu::{CRATE, MENDED};
-use crate::core060::timing_060::Oep060Timing;
 use crate::format::*;
 use std::fmt::Write as _;
 use std::io::{Read, Write};
@@ -57,7 +56,7 @@ const SLICE: u8 = 5;
 const BREAK: u8 = 6;
 
 // What a run by a profile gives: the verdict, the count and the total. The costs go into the lent bytes.
-fn ran(profile: u32, events: Result<Vec<Event>, Refused>, lent: &mut [u8], state: &mut Oep060Timing) -> String {
+fn ran(profile: u32, events: Result<Vec<Event>, Refused>, lent: &mut [u8], state: &mut State) -> String {
     let (mut count, mut total) = (0, 0u64);
     match events {
         Err((n, p)) => format!("refused {n} {p} 0 0"),
@@ -101,19 +100,25 @@ impl Case {
         }
     }
 
-    // The state that it starts from. A dirty one is a shut window with its other fields set: to the Rust it is no head.
-    fn start(&self) -> Oep060Timing {
+    // The state that it starts from. A dirty one is a shut window with its other fields set: it is no head.
+    fn start(&self) -> State {
         let mut state = read_image(&self.image).unwrap_or_default();
         if self.dirty {
-            state.pending_head = None;
+            state.timing.pending_head = None;
+            state.head = Head::default();
         }
         state
     }
 
-    // The costs of a run by a profile; none of one that is refused.
-    fn costs(&self, profile: u32) -> Vec<i32> {
+    // Of a run by a profile the costs, none where it is refused, and the state that it leaves.
+    fn stepped(&self, profile: u32) -> (Vec<i32>, State) {
         let mut state = self.start();
-        self.events().unwrap_or_default().iter().filter_map(|e| step(profile, &mut state, e)).collect()
+        let costs = self.events().unwrap_or_default().iter().filter_map(|e| step(profile, &mut state, e)).collect();
+        (costs, state)
+    }
+
+    fn costs(&self, profile: u32) -> Vec<i32> {
+        self.stepped(profile).0
     }
 
     // What the port must answer.
@@ -136,7 +141,7 @@ impl Case {
                 format!("break accepted 0 0 0 0 - {}", shown(&state))
             }
             READ => match read_image(&self.bytes) {
-                Err((n, p)) => format!("read refused {n} {p} 0 0 - {}", shown(&Oep060Timing::default())),
+                Err((n, p)) => format!("read refused {n} {p} 0 0 - {}", shown(&State::default())),
                 Ok(state) => format!("read accepted 0 0 0 0 - {}", shown(&state)),
             },
             _ => {
@@ -162,8 +167,8 @@ fn hex(bytes: &[u8]) -> String {
     })
 }
 
-fn shown(state: &Oep060Timing) -> String {
-    if *state == Oep060Timing::default() { "fresh".into() } else { hex(&write_image(state)) }
+fn shown(state: &State) -> String {
+    if *state == State::default() { "fresh".into() } else { hex(&write_image(state)) }
 }
 
 // ---- generators
@@ -308,8 +313,9 @@ fn events(rng: &mut Random, number: u8, size: u64) -> Vec<Event> {
     events
 }
 
-fn image(rng: &mut Random) -> Vec<u8> {
-    let mut s = vec![0x04, 0x05, 16, 0];
+// An image of kind 17 with its window open, behind any head, or shut.
+fn image_with(rng: &mut Random, open: bool) -> Vec<u8> {
+    let mut s = vec![0x0A, 0x05, 17, 0];
     for i in 0..256u32 {
         // tags that hit, tags of other slots, and any tag
         let tag = match rng.below(4) {
@@ -322,12 +328,24 @@ fn image(rng: &mut Random) -> Vec<u8> {
     for _ in 0..256 {
         s.push(rng.next() as u8);
     }
-    if rng.one_in(2) {
+    if open {
         s.extend([1, rng.next() as u8, rng.next() as u8, rng.below(8) as u8]);
+        s.extend((0..6).map(|_| rng.next() as u8));
     } else {
-        s.extend([0, 0, 0, 0]);
+        s.extend([0; 10]);
     }
     s
+}
+
+// The image itself, or that of kind 16, which has no head.
+fn of_either_kind(rng: &mut Random, image: Vec<u8>) -> Vec<u8> {
+    if rng.one_in(2) { old_image(&image) } else { image }
+}
+
+fn image(rng: &mut Random) -> Vec<u8> {
+    let open = rng.one_in(2);
+    let image = image_with(rng, open);
+    of_either_kind(rng, image)
 }
 
 fn damage(rng: &mut Random, s: &mut Vec<u8>) {
@@ -383,15 +401,17 @@ pub fn cases(rng: &mut Random, scale: u64, numbers: Numbers) -> Vec<Case> {
     for _ in 0..100 * scale {
         let mut bytes = image(rng);
         if rng.one_in(3) {
-            let at = rng.pick(&[0, 1, 2, 3, 1284, 1285, 1286, 1287]);
-            bytes[at] = rng.below(20) as u8;
+            // a byte of the header, or of the window
+            let window = bytes.len() as u64 - 1284;
+            let at = if rng.one_in(2) { rng.below(4) } else { 1284 + rng.below(window) };
+            bytes[at as usize] = rng.below(20) as u8;
         } else if rng.one_in(2) {
             damage(rng, &mut bytes);
         }
         all.push(Case { what: READ, number: numbers(rng), dirty: false, room: 0, image: Vec::new(), bytes });
     }
     for _ in 0..3 * scale {
-        let (number, room) = (numbers(rng), rng.pick(&[0, 1, 1287, 1288, 1289, 1300]));
+        let (number, room) = (numbers(rng), rng.pick(&[0, 1, 1287, 1288, 1293, 1294, 1295, 1300]));
         all.push(Case { what: WRITE, number, dirty: rng.one_in(3), room, image: image(rng), bytes: Vec::new() });
     }
     all
@@ -446,7 +466,8 @@ pub fn batches(rng: &mut Random, scale: u64, numbers: Numbers) -> Vec<Case> {
     }
     for _ in 0..3 * scale {
         let number = numbers(rng);
-        let image = if rng.one_in(8) { Vec::new() } else { image_with(rng, 1) };
+        let open = image_with(rng, true);
+        let image = if rng.one_in(8) { Vec::new() } else { of_either_kind(rng, open) };
         all.push(Case { what: BREAK, number, dirty: rng.one_in(4), room: 0, image, bytes: Vec::new() });
     }
     all
@@ -463,25 +484,15 @@ fn worked() -> [Event; 4] {
     ]
 }
 
-// An image with its window open, or shut.
-fn image_with(rng: &mut Random, open: u8) -> Vec<u8> {
-    loop {
-        let s = image(rng);
-        if s[1284] == open {
-            return s;
-        }
-    }
-}
-
 // Batches and breaks at their limits: no record, room that is one short, just enough and more, from every kind of
-// window.
+// window and of image.
 fn batch_limits() -> Vec<Case> {
     let mut all = Vec::new();
     let good: Vec<u8> = worked().iter().flat_map(|e| record(e)[4..].to_vec()).collect();
     let mut rng = Random::new(2);
-    let (open, shut) = (image_with(&mut rng, 1), image_with(&mut rng, 0));
-    let clean = [Vec::new(), open.clone(), shut.clone()].map(|image| (false, image));
-    let dirty = [open, shut, Vec::new()].map(|image| (true, image));
+    let (open, shut) = (image_with(&mut rng, true), image_with(&mut rng, false));
+    let clean = [Vec::new(), open.clone(), old_image(&open), shut.clone()].map(|image| (false, image));
+    let dirty = [open, old_image(&shut), Vec::new()].map(|image| (true, image));
     for (dirty, image) in clean.into_iter().chain(dirty) {
         let case = |what, room, bytes: &[u8]| {
             let (image, bytes) = (image.clone(), bytes.to_vec());
@@ -531,28 +542,113 @@ fn limits() -> Vec<Case> {
         changed(&|s| s[26..28].copy_from_slice(&u16::to_le_bytes(flags)));
     }
     let mut rng = Random::new(1);
-    let (open, shut) = (image_with(&mut rng, 1), image_with(&mut rng, 0));
-    let read = |bytes: &[u8]| {
-        let (image, bytes) = (Vec::new(), bytes.to_vec());
-        Case { what: READ, number: 0, dirty: false, room: 0, image, bytes }
-    };
-    all.extend([read(&open), read(&shut), read(&[]), read(&open[..1287]), read(&[&open[..], &[0]].concat())]);
-    let of_open = [(0, 5), (1, 6), (2, 17), (3, 1), (1284, 2), (1284, 255), (1287, 8), (1287, 7)];
-    let of_shut = [(1285, 1), (1286, 1), (1287, 1), (1287, 8)];
-    for (base, changes) in [(&open, &of_open[..]), (&shut, &of_shut)] {
-        for &(at, byte) in changes {
-            let mut s = base.clone();
-            s[at] = byte;
-            all.push(read(&s));
-        }
-    }
-    for room in [0, 1287, 1288, 1289] {
-        for dirty in [false, true] {
-            all.push(Case { what: WRITE, number: 0, dirty, room, image: open.clone(), bytes: Vec::new() });
-        }
-    }
-    for (room, image, bytes) in [(16, open, &good[..]), (3, shut.clone(), &good), (0, shut, &[])] {
+    let (open, shut) = (image_with(&mut rng, true), image_with(&mut rng, false));
+    all.extend(image_limits(&open, &shut));
+    for (room, image, bytes) in [(16, open, &good[..]), (3, shut.clone(), &good), (0, old_image(&shut), &[])] {
         all.push(Case { what: TRACE, number: 0, dirty: true, room, image, bytes: bytes.to_vec() });
+    }
+    all
+}
+
+// Images of both kinds at the limits of each refusal, written out, from one with its window open and one with it shut.
+fn image_limits(open: &[u8], shut: &[u8]) -> Vec<Case> {
+    let (old_open, old_shut) = (&old_image(open)[..], &old_image(shut)[..]);
+    let mut images = Vec::new();
+    // cut, or zeros behind it: among the lengths are that of either kind with the header of the other
+    for image in [open, shut, old_open, old_shut] {
+        for length in [0, 1287, 1288, 1289, 1293, 1294, 1295] {
+            images.push(image.iter().copied().chain([0; 7]).take(length).collect());
+        }
+    }
+    for image in [open, old_open] {
+        for header in [
+            [0x0A, 5, 17, 0], // of kind 17, and with each byte changed
+            [0x0B, 5, 17, 0],
+            [0x0A, 4, 17, 0],
+            [0x0A, 5, 18, 0],
+            [0x0A, 5, 17, 1],
+            [0x04, 5, 16, 0], // of kind 16
+            [0x05, 5, 16, 0],
+            [0x04, 6, 16, 0],
+            [0x04, 5, 15, 0],
+            [0x04, 5, 16, 1],
+            [0x0A, 5, 16, 0], // the length of one kind, and the number of the other
+            [0x04, 5, 17, 0],
+        ] {
+            images.push([&header, &image[4..]].concat());
+        }
+    }
+    let mut changed = |image: &[u8], at: usize, byte| {
+        let mut bytes = image.to_vec();
+        bytes[at] = byte;
+        images.push(bytes);
+    };
+    for image in [open, old_open] {
+        for (at, byte) in [(1284, 0), (1284, 2), (1284, 255), (1287, 7), (1287, 8), (1287, 0x80)] {
+            changed(image, at, byte);
+        }
+    }
+    for image in [shut, old_shut] {
+        (1284..image.len()).for_each(|at| changed(image, at, 1));
+        changed(image, 1287, 8);
+    }
+    changed(shut, 1293, 0x80);
+    for head in [[0; 6], [255; 6], [1, 2, 3, 4, 5, 6]] {
+        images.push([&open[..1288], &head].concat());
+    }
+    let read = |bytes| Case { what: READ, number: 0, dirty: false, room: 0, image: Vec::new(), bytes };
+    let mut all: Vec<Case> = images.into_iter().map(read).collect();
+    let mut write = |room, dirty, image: &[u8]| {
+        all.push(Case { what: WRITE, number: 0, dirty, room, image: image.to_vec(), bytes: Vec::new() });
+    };
+    for room in [0, 1287, 1288, 1293, 1294, 1295] {
+        write(room, false, open);
+        write(room, true, open);
+    }
+    for image in [old_open, shut, old_shut, &[]] {
+        write(IMAGE, false, image);
+    }
+    all
+}
+
+// What keeps a head, takes it and gives another, in traces and batches: from images of both kinds whose window any
+// simple follower joins, and from shut windows.
+fn heads() -> Vec<Case> {
+    let retired = |op, flags, ppc| Event::Retired(Retirement { op, flags, ppc, pc: 0x1000, raw: 24 });
+    let moveq = |flags| retired(0x7280, flags, 0xFFFF_FFFE); // into D1
+    let add = |ppc| retired(0xD201, 0x1E, ppc); // ADD.B D1,D1, which joins neither that nor itself
+    let runs = [
+        vec![],
+        vec![Event::ClearAll, Event::ClearUser],
+        vec![Event::Break],
+        vec![moveq(0x1E)],
+        vec![moveq(0x1A)], // ESS off: it does not join
+        vec![moveq(0x1A), Event::ClearUser, Event::ClearAll],
+        vec![moveq(0x1E), add(0x0001_0000), add(0x89AB_CDEF)],
+        vec![retired(0x4E71, 0x1E, 0x1002)], // NOP: it neither joins nor is a head
+        vec![retired(0x60FE, 0x1F, 0x1000)], // BRA
+        vec![retired(0x4E75, 0x1F, 0x1002)], // RTS
+    ];
+    let mut open = write_image(&State::default());
+    open[1284..].copy_from_slice(&[1, 0, 0, 4, 0x78, 0x56, 0x34, 0x12, 0x80, 0x70]); // 7080 at 12345678
+    let starts = [(false, open.clone()), (false, old_image(&open)), (false, Vec::new()), (true, open)];
+    let mut all = Vec::new();
+    for (dirty, image) in starts {
+        for events in &runs {
+            let case = |what, room, from: usize| {
+                let bytes = events.iter().flat_map(|e| record(e)[from..].to_vec()).collect();
+                Case { what, number: 0, dirty, room, image: image.clone(), bytes }
+            };
+            let needed = retirements(events);
+            all.push(case(TRACE, 4 * needed, 0));
+            if needed == events.len() {
+                all.extend([case(BATCH, needed, 4), case(SLICE, needed, 4)]);
+            }
+            // what is refused leaves the head that it was given
+            if needed == 3 {
+                all.extend([case(TRACE, 4 * needed - 1, 0), case(BATCH, needed - 1, 4), case(SLICE, needed - 1, 4)]);
+            }
+        }
     }
     all
 }
@@ -615,12 +711,29 @@ pub fn random_trace(seed: u64) -> Vec<u8> {
     bytes
 }
 
-/// The cases that the gate replays: traces and images, then batches and breaks, and at last those of other numbers.
+/// What replay reads: an image of either kind, one in three damaged, and such a trace; one in eight is cut before the
+/// longer image ends.
+pub fn random_replay(seed: u64) -> Vec<u8> {
+    let mut rng = Random::new(seed + 1);
+    let mut bytes = image(&mut rng);
+    if rng.one_in(3) {
+        damage(&mut rng, &mut bytes);
+    }
+    bytes.extend(random_trace(seed));
+    if rng.one_in(8) {
+        bytes.truncate(rng.below(IMAGE as u64) as usize);
+    }
+    bytes
+}
+
+/// The cases that the gate replays: traces and images, then batches and breaks, heads, and at last those of other
+/// numbers.
 pub fn sample() -> Vec<Case> {
     let mut all = limits();
     all.extend(cases(&mut Random::new(68060), 1, |_| 0));
     all.extend(batch_limits());
     all.extend(batches(&mut Random::new(68060), 1, |_| 0));
+    all.extend(heads());
     all.extend(profiles());
     all
 }
@@ -701,15 +814,20 @@ fn shrunk(runner: &[String], case: &Case) -> Case {
 }
 
 // What there is to run: how many cases, and how many retirements of those that are accepted.
-fn say_how_many(first: &[Case], second: &[Case]) {
-    let count = |all: &[Case], what| all.iter().filter(|c| c.what == what).count();
-    let retired = |all: &[Case]| -> usize { all.iter().map(|c| c.costs(CRATE).len()).sum() };
-    let (traces, read, written) = (count(first, TRACE), count(first, READ), count(first, WRITE));
-    println!("{traces} traces with {} retirements, {read} images read, {written} images written", retired(first));
-    let (words, structs, breaks) = (count(second, BATCH), count(second, SLICE), count(second, BREAK));
-    println!("{words} batches and {structs} batches of structs with {} retirements, {breaks} breaks", retired(second));
+fn say_how_many(all: &[Case]) {
+    let count = |what| all.iter().filter(|c| c.what == what).count();
+    let retired = |batch| -> usize { all.iter().filter(|c| c.batch() == batch).map(|c| c.costs(CRATE).len()).sum() };
+    let (traces, read, written) = (count(TRACE), count(READ), count(WRITE));
+    println!("{traces} traces with {} retirements, {read} images read, {written} images written", retired(false));
+    let (words, structs, breaks) = (count(BATCH), count(SLICE), count(BREAK));
+    println!("{words} batches and {structs} batches of structs with {} retirements, {breaks} breaks", retired(true));
+    let from = |size| all.iter().filter(|c| c.image.len() == size).count();
+    let runs = all.iter().filter(|c| c.what == TRACE || c.batch());
+    let heads = runs.filter(|c| c.stepped(c.profile()).1.timing.pending_head.is_some()).count();
+    let (old, new) = (from(OLD_IMAGE), from(IMAGE));
+    println!("{old} start from an image of kind 16 and {new} from one of kind 17; {heads} runs leave a head");
     let (mut by_mended, mut by_none, mut costs, mut others) = (0, 0, 0, 0);
-    for case in first.iter().chain(second) {
+    for case in all {
         match case.profile() {
             CRATE => {}
             MENDED => {
@@ -727,18 +845,19 @@ fn say_how_many(first: &[Case], second: &[Case]) {
 
 pub fn run(runner: &[String], seed: u64, scale: u64) -> Result<(usize, usize), String> {
     let mut rng = Random::new(seed);
-    let mut first = limits();
-    first.extend(cases(&mut rng, scale, any_number));
-    let mut second = batch_limits();
-    second.extend(batches(&mut rng, scale, any_number));
-    second.extend(profiles());
-    say_how_many(&first, &second);
+    let mut all = limits();
+    all.extend(cases(&mut rng, scale, any_number));
+    all.extend(batch_limits());
+    all.extend(batches(&mut rng, scale, any_number));
+    all.extend(heads());
+    all.extend(profiles());
+    say_how_many(&all);
     let (mut passed, mut failed) = (0, 0);
     let mut said = Instant::now();
-    for some in first.chunks(2000).chain(second.chunks(2000)) {
+    for some in all.chunks(2000) {
         let lines = answers(runner, some)?;
         if said.elapsed().as_secs() >= 3 {
-            eprintln!("tests/differential: {} of {} cases", passed + failed, first.len() + second.len());
+            eprintln!("tests/differential: {} of {} cases", passed + failed, all.len());
             said = Instant::now();
         }
         for (i, case) in some.iter().enumerate() {
@@ -754,7 +873,7 @@ pub fn run(runner: &[String], seed: u64, scale: u64) -> Result<(usize, usize), S
                 let mut bytes = Vec::new();
                 small.encode(&mut bytes);
                 println!("a difference, the case in hexadecimal:\n{}", hex(&bytes));
-                println!("the Rust: {}", small.expected());
+                println!("the reference: {}", small.expected());
                 println!("the port: {}", differs(runner, &small).unwrap_or_else(|| got.to_string()));
             }
         }

@@ -1,9 +1,11 @@
-//! Records, traces and images, read and written from document 01 alone: the independent reader that the port is held
-//! against.
+//! Records, traces and images, read and written from documents 01 and 02 alone: the independent reader that the port is
+//! held against. The head's opcode and address are kept here too: the Rust has neither.
 use crate::core060::cpu::{CACR_060_EBC, CpuCore, PCR_ESS};
 use crate::core060::timing_060::{BranchCache060, Oep060Timing, PendingHead060};
 
-pub const IMAGE: usize = 1288;
+/// An image as it is written, of kind 17, and one of kind 16, which has no head fields and is only read.
+pub const IMAGE: usize = 1294;
+pub const OLD_IMAGE: usize = 1288;
 
 #[derive(Clone, Copy, Debug, PartialEq)]
 pub struct Retirement {
@@ -20,6 +22,20 @@ pub enum Event {
     Break,
     ClearAll,
     ClearUser,
+}
+
+/// The head of the window: zeros where the window is shut, or came from an image of kind 16.
+#[derive(Clone, Copy, Debug, Default, PartialEq)]
+pub struct Head {
+    pub op: u16,
+    pub address: u32,
+}
+
+/// The Rust's own state, and the head beside it.
+#[derive(Clone, Debug, Default, PartialEq)]
+pub struct State {
+    pub timing: Oep060Timing,
+    pub head: Head,
 }
 
 /// A refusal: its number and place.
@@ -120,14 +136,14 @@ pub fn read_batch(s: &[u8], room: usize) -> Result<Vec<Event>, Refused> {
     Ok(events)
 }
 
-pub fn write_image(t: &Oep060Timing) -> Vec<u8> {
-    let (tags, state) = t.branch_cache.oracle_parts();
-    let mut bytes = vec![0x04, 0x05, 16, 0];
+pub fn write_image(s: &State) -> Vec<u8> {
+    let (tags, state) = s.timing.branch_cache.oracle_parts();
+    let mut bytes = vec![0x0A, 0x05, 17, 0];
     for tag in tags {
         bytes.extend(tag.to_le_bytes());
     }
     bytes.extend(state);
-    match &t.pending_head {
+    match &s.timing.pending_head {
         None => bytes.extend([0, 0, 0, 0]),
         Some(h) => {
             bytes.push(1);
@@ -135,23 +151,37 @@ pub fn write_image(t: &Oep060Timing) -> Vec<u8> {
             bytes.push(h.defines_ccr as u8 | (h.accessed_mem as u8) << 1 | (h.head_cached as u8) << 2);
         }
     }
+    bytes.extend(s.head.address.to_le_bytes());
+    bytes.extend(s.head.op.to_le_bytes());
     bytes
 }
 
-pub fn read_image(s: &[u8]) -> Result<Oep060Timing, Refused> {
-    if s.len() != IMAGE {
-        return Err((8, 0));
-    }
-    if u16_at(s, 0) != 1284 || u16_at(s, 2) != 16 {
+/// The image of kind 16 of the state whose image of kind 17 this is: another header, and no head fields.
+pub fn old_image(s: &[u8]) -> Vec<u8> {
+    [&[0x04, 0x05, 16, 0], &s[4..OLD_IMAGE]].concat()
+}
+
+pub fn read_image(s: &[u8]) -> Result<State, Refused> {
+    let header = match s.len() {
+        IMAGE => (1290, 17),
+        OLD_IMAGE => (1284, 16),
+        _ => return Err((8, 0)),
+    };
+    if (u16_at(s, 0), u16_at(s, 2)) != header {
         return Err((9, 0));
     }
     let (open, defs, bits) = (s[1284], u16_at(s, 1285), s[1287]);
-    if open > 1 || bits > 7 || (open == 0 && (defs != 0 || bits != 0)) {
+    let head = match s.len() {
+        IMAGE => Head { address: u32_at(s, 1288), op: u16_at(s, 1292) },
+        _ => Head::default(),
+    };
+    let zeros = defs == 0 && bits == 0 && head == Head::default();
+    if open > 1 || bits > 7 || (open == 0 && !zeros) {
         return Err((10, 1284));
     }
     let tags = (0..256).map(|i| u32_at(s, 4 + 4 * i)).collect();
     let state = s[4 + 1024..4 + 1024 + 256].to_vec();
-    Ok(Oep060Timing {
+    let timing = Oep060Timing {
         branch_cache: BranchCache060::oracle_of(tags, state),
         pending_head: (open == 1).then(|| PendingHead060 {
             def_mask: defs,
@@ -159,11 +189,24 @@ pub fn read_image(s: &[u8]) -> Result<Oep060Timing, Refused> {
             accessed_mem: bits & 2 != 0,
             head_cached: bits & 4 != 0,
         }),
-    })
+    };
+    Ok(State { timing, head })
 }
 
-/// One event on the Rust module itself, by the profile of a number: the cost of a retirement.
-pub fn step(profile: u32, t: &mut Oep060Timing, e: &Event) -> Option<i32> {
+/// One event, by the profile of a number: the cost of a retirement. Where a retirement leaves the Rust a head, the head
+/// is that retirement; where the Rust has none there is none; clears keep it.
+pub fn step(profile: u32, s: &mut State, e: &Event) -> Option<i32> {
+    let cost = step_rust(profile, &mut s.timing, e);
+    s.head = match (&s.timing.pending_head, e) {
+        (None, _) => Head::default(),
+        (Some(_), Event::Retired(r)) => Head { op: r.op, address: r.ppc },
+        (Some(_), _) => s.head,
+    };
+    cost
+}
+
+// The event on the Rust module itself.
+fn step_rust(profile: u32, t: &mut Oep060Timing, e: &Event) -> Option<i32> {
     match e {
         Event::Retired(r) => {
             let mut cpu = CpuCore {

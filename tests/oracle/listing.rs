@@ -1,7 +1,6 @@
 //! What the cost lister, `replay` and `show_trace` must print, from the independent reader and the Rust module; and the
 //! examples.
 use crate::core060::cpu::{CRATE, MENDED};
-use crate::core060::timing_060::Oep060Timing;
 use crate::format::*;
 use std::fmt::Write as _;
 use std::path::Path;
@@ -15,7 +14,7 @@ fn short(trace: &[u8]) -> Result<Vec<Event>, String> {
 }
 
 // The lister's lines by a profile, and the next state.
-fn listing(profile: u32, trace: &[u8], mut state: Oep060Timing) -> (String, Option<Oep060Timing>) {
+fn listing(profile: u32, trace: &[u8], mut state: State) -> (String, Option<State>) {
     let events = match short(trace) {
         Ok(events) => events,
         Err(line) => return (line, None),
@@ -34,7 +33,7 @@ fn listing(profile: u32, trace: &[u8], mut state: Oep060Timing) -> (String, Opti
 }
 
 pub fn cost_lister(profile: u32, input: &[u8]) -> String {
-    listing(profile, input, Oep060Timing::default()).0
+    listing(profile, input, State::default()).0
 }
 
 pub fn lister_limit() -> String {
@@ -43,12 +42,18 @@ pub fn lister_limit() -> String {
 }
 
 pub fn replay(profile: u32, input: &[u8]) -> String {
-    let state = match read_image(&input[..input.len().min(IMAGE)]) {
+    let size = if input.get(2..4) == Some(&[17, 0]) { IMAGE } else { OLD_IMAGE };
+    let (image, trace) = input.split_at(input.len().min(size));
+    let state = match read_image(image) {
         Ok(state) => state,
         Err((n, p)) => return format!("image refused {n} at {p}\n"),
     };
-    let (mut text, next) = listing(profile, &input[IMAGE..], state);
+    let (mut text, next) = listing(profile, trace, state);
     if let Some(next) = next {
+        match next.timing.pending_head {
+            Some(_) => writeln!(text, "head {:04X} at {:08X}", next.head.op, next.head.address).unwrap(),
+            None => text.push_str("head none\n"),
+        }
         for line in write_image(&next).chunks(32) {
             for b in line {
                 write!(text, "{b:02X}").unwrap();
@@ -181,6 +186,15 @@ fn branches() -> Vec<Event> {
     ]
 }
 
+// The state behind the worked trace and MOVEQ #0,D2, which is a head that MOVEQ #0,D0 joins.
+fn with_head() -> State {
+    let mut state = State::default();
+    for e in worked().iter().chain(&[retired(0x7400, 0x1E, 0x2000, 0x2002, 4)]) {
+        step(CRATE, &mut state, e);
+    }
+    state
+}
+
 fn damaged(change: impl Fn(&mut Vec<u8>)) -> Vec<u8> {
     let mut s = bytes(&worked());
     change(&mut s);
@@ -206,10 +220,19 @@ pub fn examples(to: &Path) -> std::io::Result<()> {
         write(format!("{name}.show.txt"), show_trace(&trace).as_bytes())?;
         write(format!("{name}.trace"), &trace)?;
     }
-    let fresh = write_image(&Oep060Timing::default());
-    let replayed = |profile, events: &[Event]| replay(profile, &[&fresh[..], &bytes(events)].concat());
+    let replayed = |profile, image: &[u8], events: &[Event]| replay(profile, &[image, &bytes(events)].concat());
+    let (fresh, head) = (write_image(&State::default()), write_image(&with_head()));
+    let old = old_image(&head);
     write("fresh.image".into(), &fresh)?;
-    write("worked.replay.txt".into(), replayed(CRATE, &worked()).as_bytes())?;
+    write("head.image".into(), &head)?;
+    write("old.image".into(), &old)?;
+    write("worked.replay.txt".into(), replayed(CRATE, &fresh, &worked()).as_bytes())?;
+    write("head.replay.txt".into(), replayed(CRATE, &head, &[]).as_bytes())?;
+    write("old.replay.txt".into(), replayed(CRATE, &old, &[]).as_bytes())?;
+    // no clock goes by the head's opcode or address
+    let later = replayed(CRATE, &head, &worked());
+    assert_eq!(later, replayed(CRATE, &old, &worked()));
+    write("worked.later.replay.txt".into(), later.as_bytes())?;
     write("over-pairing.mended.txt".into(), cost_lister(MENDED, &bytes(&over_pairing())).as_bytes())?;
-    write("over-pairing.mended.replay.txt".into(), replayed(MENDED, &over_pairing()).as_bytes())
+    write("over-pairing.mended.replay.txt".into(), replayed(MENDED, &fresh, &over_pairing()).as_bytes())
 }

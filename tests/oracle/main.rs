@@ -11,6 +11,7 @@
 //!                                     what these programs must print of standard input
 //! oracle show_trace_input             the trace that the gate shows
 //! oracle random_trace SEED            a trace of up to some 3,000 records, one in two damaged
+//! oracle random_replay SEED           an image of either kind, one in three damaged, and such a trace
 //! oracle examples DIR                 writes the examples and what the programs must print of them
 //! oracle differential SEED SCALE RUNNER..   the port's program `cases`, run by RUNNER, against this module
 #![allow(dead_code, unexpected_cfgs)]
@@ -102,7 +103,7 @@ fn differential(words: &[String]) -> ! {
 
 const USAGE: &str = "oracle all_opcodes | profile_differences | rule_page DEFINITION | worked | cases_input | cases \
     | lister_limit | cost_lister [crate|mended] | replay [crate|mended] | show_trace | show_trace_input \
-    | random_trace SEED | examples DIR | differential SEED SCALE RUNNER..";
+    | random_trace SEED | random_replay SEED | examples DIR | differential SEED SCALE RUNNER..";
 
 fn main() {
     let words: Vec<String> = std::env::args().skip(1).collect();
@@ -131,6 +132,7 @@ fn main() {
         ["replay", "mended"] => input().and_then(|s| print(listing::replay(MENDED, &s))),
         ["show_trace"] => input().and_then(|s| print(listing::show_trace(&s))),
         ["show_trace_input"] => out.write_all(&listing::show_trace_input()),
+        ["random_replay", seed] => out.write_all(&differential::random_replay(seed.parse().unwrap_or(0))),
         ["random_trace", seed] => out.write_all(&differential::random_trace(seed.parse().unwrap_or(0))),
         ["examples", folder] => listing::examples(std::path::Path::new(folder)),
         _ => {

@@ -30,8 +30,8 @@ impl<'a> Pair<'a> {
         std::mem::take(&mut self.steps)
     }
 
-    /// A retirement on both sides: the cost, the next window, the slot's byte and its tag. What was just written is
-    /// slow to read at once, so that the sides take turns.
+    /// A retirement on both sides: the cost, the next window with its head's opcode and address, the slot's byte and
+    /// its tag. What was just written is slow to read at once, so that the sides take turns.
     #[inline(always)]
     pub fn compare(&mut self, s: &Step) {
         self.library.put(s);
@@ -111,18 +111,19 @@ fn flags_text(flags: u16) -> String {
     format!("flags {flags:02X} ({})", if set.is_empty() { "none".into() } else { set.join(" ") })
 }
 
-fn window_text([open, defs, ccr, mem, cached]: Window) -> String {
+fn window_text([open, defs, ccr, mem, cached, op, low, high]: Window) -> String {
     let yes = |n: u16, name: &str| match n {
         0 => String::new(),
         1 => format!(" {name}"),
         _ => format!(" {name}={n:X}"),
     };
-    let fields = format!("{}{}{}", yes(ccr, "CCR"), yes(mem, "memory"), yes(cached, "cached"));
+    let flags = format!("{}{}{}", yes(ccr, "CCR"), yes(mem, "memory"), yes(cached, "cached"));
+    let fields = format!("defs {defs:04X}{flags} head {op:04X} at {high:04X}{low:04X}");
     match open {
-        0 if defs == 0 && fields.is_empty() => "window shut".into(),
-        0 => format!("window shut with defs {defs:04X}{fields}"),
-        1 => format!("window open defs {defs:04X}{fields}"),
-        n => format!("window open={n:X} defs {defs:04X}{fields}"),
+        0 if [defs, ccr, mem, cached, op, low, high] == [0; 7] => "window shut".into(),
+        0 => format!("window shut with {fields}"),
+        1 => format!("window open {fields}"),
+        n => format!("window open={n:X} {fields}"),
     }
 }
 

@@ -41,28 +41,34 @@ fn opcodes_by(profile: u32) -> Vec<u16> {
     if profile == MENDED { opcodes_mended(true) } else { opcodes(false) }
 }
 
-const ALL_FIELDS: Window = [1, 0xFFFF, 1, 1, 1];
-const NO_FIELDS: Window = [1, 0, 0, 0, 0];
+const ALL_FIELDS: Window = [1, 0xFFFF, 1, 1, 1, 0xFFFF, 0xFFFF, 0xFFFF];
+const NO_FIELDS: Window = [1, 0, 0, 0, 0, 0, 0, 0];
 /// Any simple follower joins this one.
-const JOINED: Window = [1, 0, 0, 0, 1];
+const JOINED: Window = [1, 0, 0, 0, 1, 0x7000, 0x2000, 0x0001];
 /// A shut window with its other fields set, and an open one whose yes is not 1.
-const SHUT_WITH_FIELDS: Window = [0, 0xFFFF, 1, 1, 1];
-const OTHER_YES: Window = [2, 0, 0x0100, 0x8000, 0xFFFF];
+const SHUT_WITH_FIELDS: Window = [0, 0xFFFF, 1, 1, 1, 0xFFFF, 0xFFFF, 0xFFFF];
+const OTHER_YES: Window = [2, 0, 0x0100, 0x8000, 0xFFFF, 0x0001, 0x8000, 0x0100];
 
 /// Of a window both sides tell apart whether it is open, whether the follower touches a register of its def mask, and
-/// CCR, memory, cached. Which registers a follower touches is told by the masks of a single register.
+/// CCR, memory, cached. Which registers a follower touches is told by the masks of a single register. Neither tells
+/// heads apart by opcode and address: each window has others.
 fn windows() -> Vec<Window> {
     let mut all = vec![SHUT];
     for defs in [0, 0xFFFF].into_iter().chain((0..16).map(|r| 1 << r)) {
-        all.extend((0..8).map(|bits| [1, defs, bits & 1, bits >> 1 & 1, bits >> 2 & 1]));
+        all.extend((0..8).map(|bits| open_window(defs, bits)));
     }
     all.extend([SHUT_WITH_FIELDS, OTHER_YES]);
     all
 }
 
-/// A step that is no branch meets a slot which any update would change: valid, its tag equal, its counter 2.
+fn open_window(defs: u16, bits: u16) -> Window {
+    [1, defs, bits & 1, bits >> 1 & 1, bits >> 2 & 1, 0x7000 | bits, defs, !defs]
+}
+
+/// A step that is no branch meets a slot which any update would change: valid, its tag equal, its counter 2. Neither
+/// half of its address is its opcode, but for 0000, 0040 and 8000, so that a head's numbers are told apart.
 fn plain_step(profile: u32, op: u16) -> Step {
-    let ppc = 0x0040_0000 + op as u32;
+    let ppc = 0x0040_0000 + 7 * op as u32;
     Step { profile, op, flags: 0, raw: 0, ppc, pc: ppc.wrapping_add(2), window: SHUT, byte: 0x06, tag: ppc }
 }
 
@@ -290,8 +296,10 @@ pub fn breaks() -> Part {
         factors: vec![(0x1_0000, "def masks"), (8, "fields"), (3, "open or shut")],
         each: Box::new(|pair, defs| {
             for bits in 0..8 {
+                let mut window = open_window(defs as u16, bits);
                 for open in [1, 0, 0xFFFF] {
-                    pair.compare_break([open, defs as u16, bits & 1, bits >> 1 & 1, bits >> 2 & 1]);
+                    window[0] = open;
+                    pair.compare_break(window);
                 }
             }
         }),

@@ -25,13 +25,20 @@ pub const ESS: u16 = 4;
 pub const EBC: u16 = 8;
 pub const SUPERVISOR: u16 = 16;
 
-/// A window as the library is lent it: open, def mask, CCR, memory, cached; anything but 0 is yes. To the Rust a shut
-/// one is no head, whatever else stands in it.
-pub type Window = [u16; 5];
-pub const SHUT: Window = [0; 5];
+/// A window as the library is lent it: open, def mask, CCR, memory, cached, of which anything but 0 is yes; the head's
+/// opcode, and the low and the high half of its address. A shut one is no head, whatever else stands in it.
+pub type Window = [u16; 8];
+pub const SHUT: Window = [0; 8];
+
+/// The last three numbers: who the head is.
+pub type Name = [u16; 3];
+
+pub fn name_of(op: u16, address: u32) -> Name {
+    [op, address as u16, (address >> 16) as u16]
+}
 
 fn head_of(w: Window) -> Option<PendingHead060> {
-    let [open, def_mask, ccr, mem, cached] = w;
+    let [open, def_mask, ccr, mem, cached, ..] = w;
     (open != 0).then_some(PendingHead060 {
         def_mask,
         defines_ccr: ccr != 0,
@@ -40,10 +47,10 @@ fn head_of(w: Window) -> Option<PendingHead060> {
     })
 }
 
-fn window_of(head: &Option<PendingHead060>) -> Window {
+fn window_of(head: &Option<PendingHead060>, [op, low, high]: Name) -> Window {
     match head {
         None => SHUT,
-        Some(h) => [1, h.def_mask, h.defines_ccr as u16, h.accessed_mem as u16, h.head_cached as u16],
+        Some(h) => [1, h.def_mask, h.defines_ccr as u16, h.accessed_mem as u16, h.head_cached as u16, op, low, high],
     }
 }
 
@@ -115,40 +122,47 @@ pub trait Side {
     }
 }
 
-pub struct Rust(CpuCore);
+/// The module does not keep who its head is: that stands beside it, as it was put, and after a retirement as that is.
+pub struct Rust {
+    cpu: CpuCore,
+    name: Name,
+}
 
 impl Rust {
     pub fn new(slots: &Slots) -> Self {
         let branch_cache = BranchCache060::oracle_of(slots.tags.to_vec(), slots.bytes.to_vec());
-        Rust(CpuCore { oep060: Oep060Timing { branch_cache, pending_head: None }, ..CpuCore::default() })
+        let oep060 = Oep060Timing { branch_cache, pending_head: None };
+        Rust { cpu: CpuCore { oep060, ..CpuCore::default() }, name: [0; 3] }
     }
 }
 
 impl Side for Rust {
     fn put_window(&mut self, w: Window) {
-        self.0.oep060.pending_head = head_of(w);
+        self.cpu.oep060.pending_head = head_of(w);
+        self.name = [w[5], w[6], w[7]];
     }
 
     fn put_slot(&mut self, i: usize, tag: u32, byte: u8) {
-        let (tags, bytes) = self.0.oep060.branch_cache.oracle_parts_mut();
+        let (tags, bytes) = self.cpu.oep060.branch_cache.oracle_parts_mut();
         tags[i] = tag;
         bytes[i] = byte;
     }
 
     fn window(&self) -> Window {
-        window_of(&self.0.oep060.pending_head)
+        window_of(&self.cpu.oep060.pending_head, self.name)
     }
 
     fn tags(&self) -> &[u32] {
-        self.0.oep060.branch_cache.oracle_parts().0
+        self.cpu.oep060.branch_cache.oracle_parts().0
     }
 
     fn bytes(&self) -> &[u8] {
-        self.0.oep060.branch_cache.oracle_parts().1
+        self.cpu.oep060.branch_cache.oracle_parts().1
     }
 
     fn retire(&mut self, s: &Step) -> i64 {
-        let cpu = &mut self.0;
+        self.name = name_of(s.op, s.ppc);
+        let cpu = &mut self.cpu;
         cpu.ir = s.op as u32;
         cpu.ppc = s.ppc;
         cpu.pc = s.pc;
@@ -160,15 +174,15 @@ impl Side for Rust {
     }
 
     fn break_window(&mut self) {
-        self.0.break_060_pipeline();
+        self.cpu.break_060_pipeline();
     }
 
     fn clear_all(&mut self) {
-        self.0.oep060.branch_cache.clear_all();
+        self.cpu.oep060.branch_cache.clear_all();
     }
 
     fn clear_user(&mut self) {
-        self.0.oep060.branch_cache.clear_user();
+        self.cpu.oep060.branch_cache.clear_user();
     }
 }
 
