@@ -4,8 +4,8 @@
 --   payloadFor s   ==  the payload length that matches the length of s: 1,290 for 1,294 bytes, else 1,284
 --   kindFor s      ==  the kind that matches it: 17 for 1,294 bytes, else 16
 --   headerWrong s  ==  "9 if the header doesn't match the length": it is not both that payload length and that kind
---   shutNotZero s  ==  "a shut window not zero", "and 10 also for shut head fields that aren't zero": open is 0, and the
---                      def mask, the bits, the address or the opcode is not
+--   shutNotZero s  ==  "a shut window not zero", "and 10 also for shut head fields that aren't zero": open is 0, and
+--                      the def mask, the bits, the address or the opcode is not
 --   windowWrong s  ==  "open above 1, a bit above 2, or a shut window not zero"; a byte from 2^3 on has a bit above 2
 use Prim.Native.Nat.{ℕ, _^_}
 use mathlib.Core.Bool.{Bool, not, cond, _&&_, _||_}
