@@ -1,5 +1,5 @@
-// Reads a stream of cases, and prints a line each: WHAT VERDICT NUMBER PLACE COUNT TOTAL LENT STATE. docs/TESTS.md has
-// the format.
+// Reads a stream of cases, and prints a line each: WHAT VERDICT NUMBER PLACE COUNT TOTAL LENT ANSWERS STATE.
+// docs/TESTS.md has the format.
 //
 // `one_case` reads a header and `read_rest` what follows it; `lend` makes the lent bytes, and `run` chooses what is
 // called: `trace`, `image`, `batch`, the batch of words of `host`, or the break of `window`. `print_line` prints what
@@ -278,14 +278,26 @@ fn records_of(bytes: &[u8]) -> [Retirement; 64] {
 }
 
 // The records as a lent run of structs.
-fn run_slice(bytes: &[u8], places: &mut [u32], timing: Oep060Timing, number: u32) -> Ran {
+fn run_slice(
+    bytes: &[u8],
+    places: &mut [u32],
+    answers: &mut [u8],
+    timing: Oep060Timing,
+    number: u32,
+) -> Ran {
     let profile = profile::profile_at(number);
     let chosen = Chosen { timing, profile };
-    batch::run_batch_of_64(records_of(bytes), bytes.len() / 16, places, chosen)
+    batch::run_batch_of_64(records_of(bytes), bytes.len() / 16, places, answers, chosen)
 }
 
 // A batch of words, as a host lends it.
-fn run_words(words: &[u32], places: &mut [u32], timing: Oep060Timing, number: u32) -> Done {
+fn run_words(
+    words: &[u32],
+    places: &mut [u32],
+    answers: &mut [u8],
+    timing: Oep060Timing,
+    number: u32,
+) -> Done {
     let mut tags = timing.cache.tags;
     let mut state = timing.cache.state;
     let mut window = [0; in_place::WINDOW_NUMBERS];
@@ -297,6 +309,7 @@ fn run_words(words: &[u32], places: &mut [u32], timing: Oep060Timing, number: u3
         &mut state,
         &mut window,
         number,
+        answers,
     );
     let mut image = [0u8; IMAGE_LENGTH];
     host::timing_060_image_write_at(&tags, &state, &window, &mut image);
@@ -308,51 +321,73 @@ fn run_records(
     what: u8,
     bytes: &[u8],
     places: &mut [u32],
+    answers: &mut [u8],
     timing: Oep060Timing,
     number: u32,
 ) -> Done {
     if what == 5 {
-        return settle(run_slice(bytes, places, timing, number));
+        return settle(run_slice(bytes, places, answers, timing, number));
     }
     let words = words_of(bytes);
     let n = words.count;
     let all = words.all;
-    run_words(&all[..n], places, timing, number)
+    run_words(&all[..n], places, answers, timing, number)
 }
 
-// A batch: what is lent, as words.
-fn run_batch(what: u8, bytes: &[u8], lent: &mut [u8], timing: Oep060Timing, number: u32) -> Done {
+// A batch: what is lent for the costs, as words.
+fn run_batch(
+    what: u8,
+    bytes: &[u8],
+    lent: &mut [u8],
+    answers: &mut [u8],
+    timing: Oep060Timing,
+    number: u32,
+) -> Done {
     let words = words_of(lent);
     let n = words.count;
     let mut all = words.all;
-    let done = run_records(what, bytes, &mut all[..n], timing, number);
+    let done = run_records(what, bytes, &mut all[..n], answers, timing, number);
     put_words(all, lent);
     done
 }
 
 // A trace run in the profile of a number.
-fn run_trace(bytes: &[u8], lent: &mut [u8], timing: Oep060Timing, number: u32) -> Ran {
+fn run_trace(
+    bytes: &[u8],
+    lent: &mut [u8],
+    answers: &mut [u8],
+    timing: Oep060Timing,
+    number: u32,
+) -> Ran {
     let profile = profile::profile_at(number);
-    trace::run_trace(bytes, lent, timing, profile)
+    trace::run_trace(bytes, lent, answers, timing, profile)
 }
 
-fn run(what: u8, bytes: &[u8], lent: &mut [u8], timing: Oep060Timing, number: u32) -> Done {
+fn run(
+    what: u8,
+    bytes: &[u8],
+    lent: &mut [u8],
+    answers: &mut [u8],
+    timing: Oep060Timing,
+    number: u32,
+) -> Done {
     match what {
-        1 => settle(run_trace(bytes, lent, timing, number)),
+        1 => settle(run_trace(bytes, lent, answers, timing, number)),
         2 => settle(read_image(bytes)),
         3 => settle(write_image(lent, timing)),
         6 => settle(run_break(timing)),
-        _ => run_batch(what, bytes, lent, timing, number),
+        _ => run_batch(what, bytes, lent, answers, timing, number),
     }
 }
 
 // The line of a case. An image written has no next state.
-fn print_line(what: u8, done: Done, lent: &[u8]) {
+fn print_line(what: u8, done: Done, lent: &[u8], answers: &[u8]) {
     let ran = done.ran;
     let image = done.image;
     print_name(what);
     print_ran(ran);
     print_hex(lent);
+    print_hex(answers);
     if what == 3 {
         put(b' ');
         put(b'-');
@@ -363,26 +398,51 @@ fn print_line(what: u8, done: Done, lent: &[u8]) {
 }
 
 // One case, on what it gives and lends.
-fn answer(what: u8, bytes: &[u8], lent: &mut [u8], timing: Oep060Timing, number: u32) {
+fn answer(
+    what: u8,
+    bytes: &[u8],
+    lent: &mut [u8],
+    answers: &mut [u8],
+    timing: Oep060Timing,
+    number: u32,
+) {
     fill(lent);
-    let done = run(what, bytes, lent, timing, number);
-    print_line(what, done, lent);
+    fill(answers);
+    let done = run(what, bytes, lent, answers, timing, number);
+    print_line(what, done, lent, answers);
 }
 
-// One case, with a buffer for what it lends, and a word of its own if one of the 16 bytes beyond the room, which hold
-// zeros, was written.
-fn lend(what: u8, room: usize, bytes: &[u8], timing: Oep060Timing, number: u32)
+// A word of its own if one of the 16 bytes beyond the room, which hold zeros, was written.
+fn print_spilled(buffer: &[u8], room: usize)
     requires { ⌜ room ≤ 65535 ⌝ }
 {
-    let mut buffer = io::large_buffer();
-    let lent: &mut [u8] = &mut buffer;
-    answer(what, bytes, &mut lent[..room], timing, number);
-    if !zeros(lent, room, room + 16) {
+    if !zeros(buffer, room, room + 16) {
         io::write_all(STDOUT_FILENO, b"spilled\n");
     }
 }
 
-// How many bytes a case lends: a batch's places are of four, and an image read or a break lends none.
+// One case, with a buffer for each run that it lends.
+fn lend(what: u8, room: usize, second: usize, bytes: &[u8], timing: Oep060Timing, number: u32)
+    requires { ⌜ (room ≤ 65535) × (second ≤ 65535) ⌝ }
+{
+    let mut buffer = io::large_buffer();
+    let mut other = io::large_buffer();
+    let lent: &mut [u8] = &mut buffer;
+    let answers: &mut [u8] = &mut other;
+    answer(
+        what,
+        bytes,
+        &mut lent[..room],
+        &mut answers[..second],
+        timing,
+        number,
+    );
+    print_spilled(lent, room);
+    print_spilled(answers, second);
+}
+
+// How many bytes a case lends for costs or an image: a batch's places are of four, and an image read or a break lends
+// none.
 fn room_of(what: u8, room: u16) -> usize
     ensures { λ r. ⌜ r ≤ 65535 ⌝ }
 {
@@ -393,21 +453,32 @@ fn room_of(what: u8, room: u16) -> usize
     }
 }
 
+// How many bytes a case lends for answers: only a run and a batch have any.
+fn answers_room(what: u8, room: u16) -> usize
+    ensures { λ r. ⌜ r ≤ 65535 ⌝ }
+{
+    match what {
+        2 | 3 | 6 => 0,
+        _ => room as usize,
+    }
+}
+
 // A case of which all came: the image that it starts from is as long as is given, and then come its bytes.
 fn split(h: &[u8], given: usize, rest: &[u8])
-    requires { ⌜ (length (now h) ≡ 8) × (given ≤ length (now rest)) ⌝ }
+    requires { ⌜ (length (now h) ≡ 10) × (given ≤ length (now rest)) ⌝ }
 {
     let what = h[0];
     let room = room_of(what, little_endian::u16_at(h, 2));
+    let second = answers_room(what, little_endian::u16_at(h, 8));
     // Bit 0 says that the state is dirty; the rest is the number of the profile.
     let timing = start(&rest[..given], h[1] % 2 == 1);
     let number = (h[1] / 2) as u32;
-    lend(what, room, &rest[given..], timing, number);
+    lend(what, room, second, &rest[given..], timing, number);
 }
 
 // Reads what follows a header and answers the case; answers whether all came.
 fn read_rest(h: &[u8]) -> bool
-    requires { ⌜ length (now h) ≡ 8 ⌝ }
+    requires { ⌜ length (now h) ≡ 10 ⌝ }
 {
     let given = little_endian::u16_at(h, 4) as usize;
     let all = given + little_endian::u16_at(h, 6) as usize;
@@ -421,8 +492,8 @@ fn read_rest(h: &[u8]) -> bool
 
 // Reads one case and answers it; answers whether there was one.
 fn one_case() -> bool {
-    let mut h = [0u8; 8];
-    if read_part(&mut h, 8) {
+    let mut h = [0u8; 10];
+    if read_part(&mut h, 10) {
         return read_rest(&h);
     }
     false

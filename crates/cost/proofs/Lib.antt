@@ -3,3 +3,4 @@ pub mod Seen
 pub mod Led
 pub mod Sound
 pub mod Zero
+pub mod Answered

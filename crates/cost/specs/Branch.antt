@@ -12,14 +12,19 @@
 --                                         "predicted and taken costs 0 if the window was open, else 1; neither costs 1;
 --                                         a mismatch costs 7"
 --   branchCost dbcc taken opened a    ==  the one or the other, by the cache's answer
+--   answerNumber a                    ==  the number of the cache's answer. Document 02, R-5: "not consulted, miss,
+--                                         predicted not taken, predicted taken"; "0 to 3 in this order"
+--   branchOf dbcc taken opened a      ==  what a branch costs, and the answer. Document 02, R-5: "The branch cost shall
+--                                         also answer"
 use Prim.Native.Nat.{ℕ, _+_, _%_, _^_}
 use mathlib.Core.Bool.{Bool, true, false, not, cond}
 use lib.Dec.{eqb}
-use Rattle.class_word.specs.Word.{has, DBCC}
+use Rattle.class_word.specs.Word.{has, clocks, DBCC}
 use Rattle.window.specs.declared.dispatch.Instruction.{Instruction}
 use Rattle.window.specs.declared.dispatch.Controls.{Controls}
 use Rattle.cost.specs.declared.branch.Answer.{Answer}
 use Rattle.cost.specs.declared.branch.Answer.the-variants.{NotConsulted, Miss, PredictedNotTaken, PredictedTaken}
+use Rattle.cost.specs.declared.branch.BranchCost.{BranchCost}
 
 unfoldable pub takenOf : Instruction → Controls → Bool
 takenOf i k = cond (has (i .word .0) DBCC) (not (eqb (k .pc) ((k .ppc + 4) % 2 ^ 32))) (k .flowed)
@@ -44,3 +49,12 @@ branchCost dbcc taken opened NotConsulted = staticCost dbcc taken
 branchCost dbcc taken opened Miss = askedCost (predictsTaken Miss) taken opened
 branchCost dbcc taken opened PredictedNotTaken = askedCost (predictsTaken PredictedNotTaken) taken opened
 branchCost dbcc taken opened PredictedTaken = askedCost (predictsTaken PredictedTaken) taken opened
+
+abbrev pub answerNumber : Answer → ℕ
+answerNumber NotConsulted = 0
+answerNumber Miss = 1
+answerNumber PredictedNotTaken = 2
+answerNumber PredictedTaken = 3
+
+abbrev pub branchOf : Bool → Bool → Bool → Answer → BranchCost
+branchOf dbcc taken opened a = record { cost = clocks (branchCost dbcc taken opened a); answer = a }

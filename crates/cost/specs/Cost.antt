@@ -16,6 +16,8 @@
 --   windowBy              ==  the next window: the head's, or shut
 --   chargedBy             ==  the cost, and whether the instruction becomes the head
 --   costOf r, windowOf r  ==  what the retirement r costs, and the window that it leaves
+--   predictedOf r         ==  what the cache predicted of it, as a number
+--                             document 02, R-5: "0 to 3 in this order, 0 for non-branches"
 --
 -- In `costBy` the base less 1 is 0 where the base is 0, as the Rust's `.max(0)` has it. Neither it nor `headsBy` is
 -- given the opcode, nor looks at the window's `op` and `address`.
@@ -42,7 +44,7 @@ use Rattle.window.specs.declared.dispatch.Instruction.{Instruction}
 use Rattle.window.specs.declared.dispatch.Controls.{Controls}
 use Rattle.window.specs.declared.Window.{Window}
 use Rattle.cost.specs.declared.branch.Answer.{Answer}
-use Rattle.cost.specs.Branch.{takenOf, branchCost}
+use Rattle.cost.specs.Branch.{takenOf, branchCost, answerNumber}
 use Rattle.cost.specs.declared.Charged.{Charged}
 
 abbrev pub flowCost : ℤ → ℕ
@@ -90,3 +92,6 @@ costOf r = costBy (pointOf (r .instruction) (r .controls)) (r .instruction) (r .
 
 unfoldable pub windowOf : Retiring → Window
 windowOf r = windowBy (pointOf (r .instruction) (r .controls)) (r .op) (r .instruction) (r .controls) (r .window)
+
+abbrev pub predictedOf : Retiring → ℕ
+predictedOf r = answerNumber (r .answer)

@@ -1,7 +1,7 @@
 // Part 5 of document 01: the branch's cost.
 ghost use mathlib.Core.Path.{_≡_};
-ghost use Rattle.class_word.specs.Word.{clocks, has, DBCC};
-ghost use Rattle.cost.specs.Branch.{takenOf, branchCost};
+ghost use Rattle.class_word.specs.Word.{has, DBCC};
+ghost use Rattle.cost.specs.Branch.{takenOf, answerNumber, branchOf};
 use class_word::Clocks;
 use class_word::F_DBCC;
 use window::Controls;
@@ -25,6 +25,24 @@ pub enum Answer {
     PredictedTaken,
 }
 
+// What a branch costs, and what the branch cache said of it.
+pub struct BranchCost {
+    pub cost: Clocks,
+    pub answer: Answer,
+}
+
+// The number of an answer.
+pub fn answer_number(answer: Answer) -> u8
+    ensures { λ r. ⌜ r ≡ answerNumber answer ⌝ }
+{
+    match answer {
+        Answer::NotConsulted => 0,
+        Answer::Miss => 1,
+        Answer::PredictedNotTaken => 2,
+        Answer::PredictedTaken => 3,
+    }
+}
+
 // Whether a branch is taken; DBcc does not raise `flowed`, so it is told by where it went.
 pub fn taken(i: Instruction, k: Controls) -> bool
     ensures { λ r. ⌜ r ≡ takenOf i k ⌝ }
@@ -37,17 +55,17 @@ pub fn taken(i: Instruction, k: Controls) -> bool
 }
 
 // What a branch costs; the window is shut behind it.
-pub fn charge_branch(i: Instruction, k: Controls, opened: bool, answer: Answer) -> Clocks
-    ensures { λ r. ⌜ r ≡ clocks (branchCost (has (i .word .0) DBCC) (takenOf i k) opened answer) ⌝ }
+pub fn charge_branch(i: Instruction, k: Controls, opened: bool, answer: Answer) -> BranchCost
+    ensures { λ r. ⌜ r ≡ branchOf (has (i .word .0) DBCC) (takenOf i k) opened answer ⌝ }
 {
     branch_cost_060(i.word.has(F_DBCC), taken(i, k), opened, answer)
 }
 
 // The answer stands for EBC and the fetch too: with either off, the cache is not consulted.
-pub fn branch_cost_060(is_dbcc: bool, taken: bool, opened: bool, answer: Answer) -> Clocks
-    ensures { λ r. ⌜ r ≡ clocks (branchCost «is_dbcc» taken opened answer) ⌝ }
+pub fn branch_cost_060(is_dbcc: bool, taken: bool, opened: bool, answer: Answer) -> BranchCost
+    ensures { λ r. ⌜ r ≡ branchOf «is_dbcc» taken opened answer ⌝ }
 {
-    match answer {
+    let cost = match answer {
         Answer::NotConsulted => {
             if is_dbcc {
                 if taken {
@@ -72,5 +90,6 @@ pub fn branch_cost_060(is_dbcc: bool, taken: bool, opened: bool, answer: Answer)
                 CYC_060_MISPREDICT
             }
         }
-    }
+    };
+    BranchCost { cost, answer }
 }

@@ -5,6 +5,8 @@
 mod branch;
 
 pub use branch::Answer;
+pub use branch::BranchCost;
+pub use branch::answer_number;
 pub use branch::branch_cost_060;
 pub use branch::charge_branch;
 pub use branch::taken;

@@ -16,14 +16,14 @@ ghost use Rattle.profile.specs.Profile.{profileOf, profileAt};
 ghost use Rattle.state.specs.Timing.{freshOf};
 ghost use Rattle.state.specs.declared.Event.the-variants.{Broken, ClearedAll, ClearedUser};
 ghost use Rattle.in_place.specs.Lent.{lent, lentOf};
-ghost use Rattle.in_place.specs.Retire.{paid, retireAtOf, eventAtOf};
+ghost use Rattle.in_place.specs.Retire.{paidBy, retireAtOf, eventAtOf};
+ghost use Rattle.refusals.specs.Runs.{runs};
 ghost use Rattle.host.specs.HostRan.{hostOutcome};
 ghost use Rattle.host.specs.HostWords.{runBatchAtOf};
 ghost use Rattle.host.specs.HostRuns.{runTraceAtOf};
 ghost use Rattle.host.specs.HostImages.{hostImage, imageWriteAtOf, hostState, imageReadAtOf};
 ghost use Rattle.state.specs.Flags.{retirementOf};
 ghost use Rattle.host.specs.HostMasks.{hostMasksOf};
-ghost use Rattle.class_word.specs.Word.{clocks};
 ghost use Rattle.window.specs.Raw.{rawCount};
 use class_word::Info060;
 use in_place::WindowNumbers;
@@ -50,7 +50,8 @@ pub extern "C" fn timing_060_fresh_at(
     fresh_at(tags, state, window)
 }
 
-// One retirement in place, in the profile of this number: its clocks.
+// One retirement in place, in the profile of this number: its clocks in the low 32 bits, and above them what the cache
+// predicted, 0 to 3.
 #[no_mangle]
 pub extern "C" fn timing_060_retire_at(
     tags: &mut [u32; 256],
@@ -62,8 +63,8 @@ pub extern "C" fn timing_060_retire_at(
     ppc: u32,
     pc: u32,
     raw: i32,
-) -> u32
-    ensures { λ r. ⌜ paid (clocks r) (lent (now (tags .exit)) (now (state .exit)) (now (window .exit)))
+) -> u64
+    ensures { λ r. ⌜ paidBy r (lent (now (tags .exit)) (now (state .exit)) (now (window .exit)))
         ≡ retireAtOf (profileAt profile) (lent (now (tags .entry)) (now (state .entry)) (now (window .entry)))
         (retirementOf op flags ppc pc (rawCount raw)) ⌝ }
 {
@@ -131,7 +132,8 @@ pub extern "C" fn timing_060_masks_of(op: u16, profile: u32) -> HostMasks
     }
 }
 
-// A run of a trace: the state is taken once, and the next one stored once; a refused run writes nothing.
+// A run of a trace: the state is taken once, and the next one stored once; a refused run writes nothing. The answers
+// come last, where both their numbers go over the stack: a caller may take a slice for a struct or for two numbers.
 #[no_mangle]
 pub extern "C" fn timing_060_run_trace_at(
     trace: &[u8],
@@ -140,22 +142,23 @@ pub extern "C" fn timing_060_run_trace_at(
     state: &mut [u8; 256],
     window: &mut WindowNumbers,
     profile: u32,
+    answers: &mut [u8],
 ) -> HostRan
-    ensures { λ r. ⌜ hostOutcome r (now (costs .exit)) (lent (now (tags .exit)) (now (state .exit))
-        (now (window .exit)))
-        ≡ runTraceAtOf (profileAt profile) (now (trace .entry)) (now (costs .entry)) (lent (now (tags .entry))
-        (now (state .entry)) (now (window .entry))) ⌝ }
+    ensures { λ r. ⌜ hostOutcome r (runs (now (costs .exit)) (now (answers .exit))) (lent (now (tags .exit))
+        (now (state .exit)) (now (window .exit)))
+        ≡ runTraceAtOf (profileAt profile) (now (trace .entry)) (runs (now (costs .entry)) (now (answers .entry)))
+        (lent (now (tags .entry)) (now (state .entry)) (now (window .entry))) ⌝ }
 {
     let given = in_place::timing_at(*tags, *state, *window);
     let p = profile::profile_at(profile);
-    let ran = trace::run_trace(trace, costs, given, p);
+    let ran = trace::run_trace(trace, costs, answers, given, p);
     let verdict = ran.verdict;
     let next = ran.timing;
     put_accepted(tags, state, window, verdict, next);
     host_ran(verdict, ran.count, ran.total)
 }
 
-// A batch of records of four words each; words beyond the last whole record are not read.
+// A batch of records of four words each; words beyond the last whole record are not read. The answers come last, too.
 #[no_mangle]
 pub extern "C" fn timing_060_run_batch_at(
     records: &[u32],
@@ -164,13 +167,14 @@ pub extern "C" fn timing_060_run_batch_at(
     state: &mut [u8; 256],
     window: &mut WindowNumbers,
     profile: u32,
+    answers: &mut [u8],
 ) -> HostRan
-    ensures { λ r. ⌜ hostOutcome r (now (costs .exit)) (lent (now (tags .exit)) (now (state .exit))
-        (now (window .exit)))
-        ≡ runBatchAtOf (profileAt profile) (now (records .entry)) (now (costs .entry)) (lent (now (tags .entry))
-        (now (state .entry)) (now (window .entry))) ⌝ }
+    ensures { λ r. ⌜ hostOutcome r (runs (now (costs .exit)) (now (answers .exit))) (lent (now (tags .exit))
+        (now (state .exit)) (now (window .exit)))
+        ≡ runBatchAtOf (profileAt profile) (now (records .entry)) (runs (now (costs .entry)) (now (answers .entry)))
+        (lent (now (tags .entry)) (now (state .entry)) (now (window .entry))) ⌝ }
 {
-    words::run_batch_at(records, costs, tags, state, window, profile)
+    words::run_batch_at(records, costs, answers, tags, state, window, profile)
 }
 
 // The image of a state; the count is the bytes written.

@@ -8,6 +8,8 @@ ghost use Rattle.state.specs.Events.{countOf};
 ghost use Rattle.in_place.specs.Lent.{lent};
 ghost use Rattle.in_place.specs.Retire.{paid, eventAtOf, paidFor};
 use crate::retire_in_place;
+use crate::told::answer_in;
+use crate::told::clocks_in;
 use crate::windows::WindowNumbers;
 use crate::windows::see_window;
 use crate::windows::shut_window;
@@ -16,10 +18,11 @@ use class_word::Clocks;
 use profile::Profile;
 use state::Event;
 
-// How many retirements an event is, and its clocks.
+// How many retirements an event is, its clocks, and what the cache predicted, as a number.
 pub struct Happened {
     pub count: usize,
     pub cost: Clocks,
+    pub answer: u8,
 }
 
 // The tags stay, and are not lent.
@@ -54,20 +57,27 @@ pub fn event_at(
     profile: Profile,
     e: Event,
 ) -> Happened
-    ensures { λ r. ⌜ (paid (r .cost) (lent (now (tags .exit)) (now (state .exit)) (now (window .exit)))
+    ensures { λ r. ⌜ (paid (r .cost) (r .answer) (lent (now (tags .exit)) (now (state .exit)) (now (window .exit)))
         ≡ paidFor profile (lent (now (tags .entry)) (now (state .entry)) (now (window .entry))) e) × (r .count
         ≡ countOf (e ∷ [])) ⌝ }
 {
     match e {
         Event::Retired(r) => {
-            let cost = retire_in_place(tags, state, window, profile, r);
-            Happened { count: 1, cost }
+            let told = retire_in_place(tags, state, window, profile, r);
+            let cost = clocks_in(told);
+            let answer = answer_in(told);
+            Happened {
+                count: 1,
+                cost,
+                answer,
+            }
         }
         Event::Broken => {
             shut_window(window);
             Happened {
                 count: 0,
                 cost: Clocks(0),
+                answer: 0,
             }
         }
         Event::ClearedAll => {
@@ -75,6 +85,7 @@ pub fn event_at(
             Happened {
                 count: 0,
                 cost: Clocks(0),
+                answer: 0,
             }
         }
         Event::ClearedUser => {
@@ -82,6 +93,7 @@ pub fn event_at(
             Happened {
                 count: 0,
                 cost: Clocks(0),
+                answer: 0,
             }
         }
     }

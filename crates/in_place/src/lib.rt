@@ -1,11 +1,12 @@
 // Part 5 of document 01, fast: one retirement, and any event, on the numbers that are lent for a state.
 //
-// `windows` has the window as numbers, `by_numbers` a whole state, `ask` the branch cache asked in place, and `events`
-// breaks and clears. The step here equals the one by value (`step`): both are the definition's. It carries no state,
-// stores at most one slot, and runs and hosts share it.
+// `windows` has the window as numbers, `by_numbers` a whole state, `ask` the branch cache asked in place, `told` the
+// two numbers that a step hands back, and `events` breaks and clears. The step here equals the one by value (`step`):
+// both are the definition's. It carries no state, stores at most one slot, and runs and hosts share it.
 mod ask;
 mod by_numbers;
 mod events;
+mod told;
 mod windows;
 
 pub use by_numbers::timing_at;
@@ -13,6 +14,8 @@ pub use events::Happened;
 pub use events::clear_all_at;
 pub use events::clear_user_at;
 pub use events::event_at;
+pub use told::answer_in;
+pub use told::clocks_in;
 pub use windows::WINDOW_NUMBERS;
 pub use windows::WindowNumbers;
 pub use windows::put_window;
@@ -23,11 +26,10 @@ ghost use mathlib.Core.Path.{_≡_};
 ghost use Rattle.profile.specs.Profile.{profileAt};
 ghost use Rattle.state.specs.Flags.{retirementOf};
 ghost use Rattle.in_place.specs.Lent.{lent};
-ghost use Rattle.in_place.specs.Retire.{paid, retireAtOf};
-ghost use Rattle.class_word.specs.Word.{clocks};
+ghost use Rattle.in_place.specs.Retire.{paidBy, retireAtOf};
 ghost use Rattle.window.specs.Raw.{rawCount};
-use class_word::Clocks;
 use class_word::F_BRANCH;
+use cost::Answer;
 use profile::Profile;
 use state::Retirement;
 use window::RawCount;
@@ -43,32 +45,36 @@ fn retire(
     ppc: u32,
     pc: u32,
     raw: RawCount,
-) -> Clocks
-    ensures { λ r. ⌜ paid r (lent (now (tags .exit)) (now (state .exit)) (now (window .exit)))
+) -> u64
+    ensures { λ r. ⌜ paidBy r (lent (now (tags .exit)) (now (state .exit)) (now (window .exit)))
         ≡ retireAtOf profile (lent (now (tags .entry)) (now (state .entry)) (now (window .entry)))
         (retirementOf op flags ppc pc raw) ⌝ }
 {
     let k = state::controls_of(flags, ppc, pc, raw);
     let i = profile::instruction_060(profile, op);
     if i.word.has(F_BRANCH) { // only a branch asks the cache
-        let answer = ask::ask_in_place(tags, state, i, k);
+        let predicted = ask::ask_in_place(tags, state, i, k);
         let w = window_at(*window);
         shut_window(window);
-        return cost::charge_branch(i, k, w.opened, answer);
+        let branch = cost::charge_branch(i, k, w.opened, predicted);
+        let cost = branch.cost;
+        let answer = branch.answer;
+        return told::told(cost, answer);
     }
     let w = window_at(*window);
     let charged = cost::charge_other(i, k, w);
-    let clocks = charged.cost;
+    let cost = charged.cost;
+    let told = told::told(cost, Answer::NotConsulted);
     if charged.heads {
         windows::put_head(window, op, i, k);
     } else {
         shut_window(window);
     }
-    clocks
+    told
 }
 
-// One retirement of these numbers, the profile's among them: its clocks. The step is large and stays a call, and a C
-// function's numbers go through it in registers, where structs would go through memory.
+// One retirement of these numbers, the profile's among them: its clocks and what the cache predicted. The step is large
+// and stays a call, and a C function's numbers go through it in registers, where structs would go through memory.
 #[no_mangle]
 pub extern "C" fn retire_at(
     tags: &mut [u32; 256],
@@ -80,13 +86,13 @@ pub extern "C" fn retire_at(
     ppc: u32,
     pc: u32,
     raw: i32,
-) -> u32
-    ensures { λ r. ⌜ paid (clocks r) (lent (now (tags .exit)) (now (state .exit)) (now (window .exit)))
+) -> u64
+    ensures { λ r. ⌜ paidBy r (lent (now (tags .exit)) (now (state .exit)) (now (window .exit)))
         ≡ retireAtOf (profileAt profile) (lent (now (tags .entry)) (now (state .entry)) (now (window .entry)))
         (retirementOf op flags ppc pc (rawCount raw)) ⌝ }
 {
     let p = profile::profile_at(profile);
-    retire(tags, state, window, p, op, flags, ppc, pc, RawCount(raw)).0
+    retire(tags, state, window, p, op, flags, ppc, pc, RawCount(raw))
 }
 
 // The same for a caller that has the retirement as a struct.
@@ -96,14 +102,14 @@ pub fn retire_in_place(
     window: &mut WindowNumbers,
     profile: Profile,
     r: Retirement,
-) -> Clocks
-    ensures { λ o. ⌜ paid o (lent (now (tags .exit)) (now (state .exit)) (now (window .exit)))
+) -> u64
+    ensures { λ o. ⌜ paidBy o (lent (now (tags .exit)) (now (state .exit)) (now (window .exit)))
         ≡ retireAtOf profile (lent (now (tags .entry)) (now (state .entry)) (now (window .entry))) r ⌝ }
 {
     let k = r.controls;
     let flags = state::control_flags(k);
     let number = profile::number_of(profile);
-    Clocks(retire_at(
+    retire_at(
         tags,
         state,
         window,
@@ -113,5 +119,5 @@ pub fn retire_in_place(
         k.ppc,
         k.pc,
         k.raw.0,
-    ))
+    )
 }

@@ -2,7 +2,7 @@
 -- own. What word comes no promise can say; what it names, this one fixes.
 --
 --   CRATE, MENDED        ==  the two words: `crate`, `mended`
---   Tells yes word name  ==  the yes or no says whether the word is the name
+--   FitsAnswers yes word name  ==  the yes or no says whether the word is the name
 --   Names word w         ==  w is what the word names: a profile by its word, or nothing
 --   chosenOf given w     ==  what a program is told by so many arguments, its own name among them, where the first word
 --                            names w: no word is the crate's profile, and two or more name nothing
@@ -22,9 +22,9 @@ CRATE = textOf "crate"
 abbrev pub MENDED : List ℕ
 MENDED = textOf "mended"
 
-abbrev pub Tells : Bool → List ℕ → List ℕ → Type 0
-Tells true word name = word ≡ name
-Tells false word name = word ≡ name → ⊥
+abbrev pub FitsAnswers : Bool → List ℕ → List ℕ → Type 0
+FitsAnswers true word name = word ≡ name
+FitsAnswers false word name = word ≡ name → ⊥
 
 abbrev pub Names : List ℕ → Word → Type 0
 Names word (Named Crate) = word ≡ CRATE

@@ -1,6 +1,6 @@
 // The word by which a program is told the profile: `crate`, `mended`, or none, which is the crate's.
 ghost use mathlib.Core.Path.{_≡_};
-ghost use Rattle.input.specs.Words.{Tells, Names, chosenOf};
+ghost use Rattle.input.specs.Words.{FitsAnswers, Names, chosenOf};
 use profile::Profile;
 
 // What a word names.
@@ -11,7 +11,7 @@ pub enum Word {
 
 // Whether two words have the same letters.
 fn is_word(word: &[u8], name: &[u8]) -> bool
-    ensures { λ r. ⌜ Tells r (now (word .entry)) (now (name .entry)) ⌝ }
+    ensures { λ r. ⌜ FitsAnswers r (now (word .entry)) (now (name .entry)) ⌝ }
 {
     if word.len() != name.len() {
         return false;

@@ -1,4 +1,4 @@
--- A trace of at most 65,536 bytes has room for its costs and its text; and the text that is written is the definition's.
+-- A trace of at most 65,536 bytes has room for its costs, its answers and its text; and the text that is written is the definition's.
 -- Assumes nothing.
 use Prim.Native.Nat.{ℕ, _+_, _*_, _≤_, _<_}
 use mathlib.Core.Path.{_≡_, refl, sym, ap, subst, _∙_}
@@ -17,6 +17,7 @@ use Rattle.state.specs.Events.{total, countOf}
 use Rattle.state.specs.Timing.{stateOf, seenOf}
 use Rattle.refusals.specs.declared.Refusal.the-variants.{Oversized}
 use Rattle.refusals.specs.declared.outcome.Ran.{Ran}
+use Rattle.refusals.specs.Runs.{Runs, Rooms, roomsOf}
 use Rattle.records.specs.Record.{remaining}
 use Rattle.records.proofs.Choices.{by-test}
 use Rattle.records.specs.Trace.{Trace, events, refused, readTrace}
@@ -38,8 +39,12 @@ table-most P size es t h q =
     let c = total-most (countOf es) (total (costsOf P t es)) (omega (arith, q .0)) (omega (arith, q .0)) in
     omega (arith, q .0, length-append (headerLine ++ ls) (totalLine (countOf es) (total (costsOf P t es))), length-append headerLine ls)
 
-enough-room : (size room n : ℕ) (said : Trace) → size ≤ 65536 → Short size said → 13104 ≤ room → withRoom n room said ≡ said
-enough-room size room n (events es) h q r = simp (le-ltb room (4 * countOf es) (omega (arith, q .0)))
+-- the room that the lister has
+abbrev Large : Rooms → Type 0
+Large room = (13104 ≤ room .costs) × (3276 ≤ room .answers)
+
+enough-room : (size : ℕ) (room : Rooms) (n : ℕ) (said : Trace) → size ≤ 65536 → Short size said → Large room → withRoom n room said ≡ said
+enough-room size room n (events es) h q r = simp (le-ltb (room .costs) (4 * countOf es) (omega (arith, q .0, r .0)), le-ltb (room .answers) (countOf es) (omega (arith, q .0, r .1)))
 enough-room size room n (refused refusal) h q r = refl
 
 -- text that was written, with the verdict and the next state, is the outcome
@@ -64,14 +69,14 @@ module _ (trace : List ℕ) (h : length trace ≤ 65536) where
   pub text-most : (P : Profile) (t : Oep060Timing) {es : List Event} → shortTraceOf trace ≡ events es → length (tableOf P es t) ≤ 65588
   text-most P t {es} e = table-most P (remaining trace 0) es t small (subst (Short (remaining trace 0)) (sym judged-same ∙ e) (short trace))
 
-  run-judged : (room : ℕ) → 13104 ≤ room → judgedTrace trace room ≡ shortTraceOf trace
+  run-judged : (room : Rooms) → Large room → judgedTrace trace room ≡ shortTraceOf trace
   unfolding judgedTrace
   run-judged room big = rw judged-same (simp (le-ltb 16777216 (length trace) (omega arith)) (enough-room (remaining trace 0) room (length trace) (readTrace trace) small (short trace) big))
 
-  -- a run that has room for the costs refuses no more
-  pub run-small : (P : Profile) (lent : List ℕ) (t : Oep060Timing) → 13104 ≤ length lent → runTraceOf P trace lent t ≡ traceOutcomeOf P (shortTraceOf trace) lent t
+  -- a run that has room for the costs and the answers refuses no more
+  pub run-small : (P : Profile) (lent : Runs) (t : Oep060Timing) → Large (roomsOf lent) → runTraceOf P trace lent t ≡ traceOutcomeOf P (shortTraceOf trace) lent t
   unfolding runTraceOf
-  run-small P lent t big = ap (λ (said : Trace). traceOutcomeOf P said lent t) (run-judged (length lent) big)
+  run-small P lent t big = ap (λ (said : Trace). traceOutcomeOf P said lent t) (run-judged (roomsOf lent) big)
 
 -- what is known of what a trace said
 module _ (trace : List ℕ) where
@@ -90,13 +95,16 @@ module _ (trace : List ℕ) where
       (λ b. told-small (readTrace trace) refl (ltb-false 65536 (length trace) b) (short trace))
 
   -- what a run of it gave
-  module _ (P : Profile) (lent bytes : List ℕ) (t : Oep060Timing) (ran : Ran) where
+  module _ (P : Profile) (lent left : Runs) (t : Oep060Timing) (ran : Ran) where
     abbrev Gave : Trace → Type 0
-    Gave said = traceOutcome ran bytes ≡ traceOutcomeOf P said lent t
+    Gave said = traceOutcome ran left ≡ traceOutcomeOf P said lent t
+
+    abbrev bytes : List ℕ
+    bytes = left .costs
 
     lines : (es : List Event) → Raws es → Gave (events es) → linesRead 0 bytes es ≡ linesFrom 0 (opcodesOf es) (costsOf P t es)
     unfolding putAt
-    lines es w e = lines-costs P 0 bytes _ (stateOf (seenOf t)) es w (ap (λ (o : TraceOutcome). o .bytes) e)
+    lines es w e = lines-costs P 0 bytes _ (stateOf (seenOf t)) es w (ap (λ (o : TraceOutcome). o .lent .costs) e)
 
     ready : (said : Trace) → Told said → Gave said → {room : ℕ} → 13104 ≤ length bytes → 65600 ≤ room → Ready (ran .verdict) trace bytes room
     ready (events es) k e big r =
@@ -117,11 +125,11 @@ module _ (trace : List ℕ) where
         let v = ap (λ (o : TraceOutcome). o .ran .verdict) e in
         rw (v, ap (λ (o : TraceOutcome). o .ran .timing) e) (listed P (refused refusal) out t (rw v at d))
 
-  module _ (P : Profile) (lent : List ℕ) {bytes : List ℕ} (t : Oep060Timing) {ran : Ran} (e : traceOutcome ran bytes ≡ traceOutcomeOf P (shortTraceOf trace) lent t) where
-    pub listed-ready : {room : ℕ} → 13104 ≤ length bytes → 65600 ≤ room → Ready (ran .verdict) trace bytes room
-    listed-ready big r = ready P lent bytes t ran (shortTraceOf trace) told e big r
+  module _ (P : Profile) (lent : Runs) {left : Runs} (t : Oep060Timing) {ran : Ran} (e : traceOutcome ran left ≡ traceOutcomeOf P (shortTraceOf trace) lent t) where
+    pub listed-ready : {room : ℕ} → 13104 ≤ length (left .costs) → 65600 ≤ room → Ready (ran .verdict) trace (left .costs) room
+    listed-ready big r = ready P lent left t ran (shortTraceOf trace) told e big r
 
     pub listed-whole : (out : List ℕ) {n : ℕ} {after : List ℕ}
-        → written n after ≡ writtenOf out 0 (printed (ran .verdict) trace bytes (ran .count) (ran .total))
+        → written n after ≡ writtenOf out 0 (printed (ran .verdict) trace (left .costs) (ran .count) (ran .total))
         → listingOutcome (record { verdict = ran .verdict; len = n; timing = ran .timing }) after ≡ listingOutcomeBy P (shortTraceOf trace) out t
-    listed-whole out d = whole P lent bytes t ran (shortTraceOf trace) told e out d
+    listed-whole out d = whole P lent left t ran (shortTraceOf trace) told e out d

@@ -10,6 +10,7 @@ pub use lines::put_refusal;
 ghost use mathlib.Core.Path.{_≡_};
 ghost use Prim.Native.Nat.{_≤_};
 ghost use lib.ListN.{length};
+ghost use Rattle.refusals.specs.Runs.{runs};
 ghost use Rattle.trace.specs.Run.{traceOutcome, traceOutcomeOf};
 ghost use Rattle.listing.specs.Listing.{shortTraceOf, listingOutcome, listTraceOf};
 use profile::Profile;
@@ -35,15 +36,22 @@ pub struct Listed {
 }
 
 // Runs a trace of at most so many bytes; a longer one is refused.
-fn run_short(trace: &[u8], costs: &mut [u8], timing: Oep060Timing, profile: Profile) -> Ran
-    requires { ⌜ 13104 ≤ length (now costs) ⌝ }
-    ensures { λ r. ⌜ traceOutcome r (now (costs .exit))
-        ≡ traceOutcomeOf profile (shortTraceOf (now (trace .entry))) (now (costs .entry)) timing ⌝ }
+fn run_short(
+    trace: &[u8],
+    costs: &mut [u8],
+    answers: &mut [u8],
+    timing: Oep060Timing,
+    profile: Profile,
+) -> Ran
+    requires { ⌜ (13104 ≤ length (now costs)) × (3276 ≤ length (now answers)) ⌝ }
+    ensures { λ r. ⌜ traceOutcome r (runs (now (costs .exit)) (now (answers .exit)))
+        ≡ traceOutcomeOf profile (shortTraceOf (now (trace .entry))) (runs (now (costs .entry)) (now (answers .entry)))
+        timing ⌝ }
 {
     if MOST_LISTED_BYTES < trace.len() {
         return refusals::refused(Refusal::Oversized, timing);
     }
-    trace::run_trace(trace, costs, timing, profile)
+    trace::run_trace(trace, costs, answers, timing, profile)
 }
 
 // Lists a trace into lent bytes that have room for any; the replay's have more.
@@ -52,9 +60,10 @@ pub fn list_into(trace: &[u8], out: &mut [u8], timing: Oep060Timing, profile: Pr
     ensures { λ r. ⌜ listingOutcome r (now (out .exit))
         ≡ listTraceOf profile (now (trace .entry)) (now (out .entry)) timing ⌝ }
 {
-    // 4 bytes for each retirement that such a trace can have.
+    // 4 bytes and 1 byte for each retirement that such a trace can have; the lister prints no answer.
     let mut costs = [0u8; 13104];
-    let ran = run_short(trace, &mut costs, timing, profile);
+    let mut answers = [0u8; 3276];
+    let ran = run_short(trace, &mut costs, &mut answers, timing, profile);
     let verdict = ran.verdict;
     let next = ran.timing;
     let len = table::put_text(trace, &costs, out, verdict, ran.count, ran.total);

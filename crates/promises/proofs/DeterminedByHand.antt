@@ -15,6 +15,7 @@ use denote.Ref.{now}
 use denote.Triple.Clauses.{AtExit}
 use denote.Triple.Entry.{Args, Res}
 use denote.Triple.Spec.{Spec, Meets, exits}
+use Rattle.refusals.specs.Runs.{runs}
 use Rattle.batch.specs.Batch.{batchOutcome}
 use Rattle.window.proofs.break_in_place.Reads as window-break-in-place
 use Rattle.window.proofs.break_060_pipeline as window-break
@@ -42,13 +43,13 @@ module _ (κs : Lifetimes.Lfts 0) where
   pub window-break-in-place-determined : Determined result (window-break-in-place.Post κs)
   window-break-in-place-determined i r r′ x x′ p q = p ∙ sym q
 
-module _ (κs : Lifetimes.Lfts 1) where
+module _ (κs : Lifetimes.Lfts 2) where
   pub batch-run-batch-of-64-is : (i : _) (r : _) (x : _)
       → batch-run-batch-of-64.Post κs i r x
-      ≡ BatchOf64Allows (record { records = i .0; count = i .1 .0; places = now (i .1 .1 .0); chosen = i .1 .1 .1 .0 }) r (now (x .1 .1 .0))
+      ≡ BatchOf64Allows (record { records = i .0; count = i .1 .0; lent = runs (now (i .1 .1 .0)) (now (i .1 .1 .1 .0)); chosen = i .1 .1 .1 .1 .0 }) r (runs (now (x .1 .1 .0)) (now (x .1 .1 .1 .0)))
   batch-run-batch-of-64-is i r x = refl
 
-  pub batch-run-batch-of-64-determined : Determined (λ r x. batchOutcome r (now (x .1 .1 .0))) (batch-run-batch-of-64.Post κs)
+  pub batch-run-batch-of-64-determined : Determined (λ r x. batchOutcome r (runs (now (x .1 .1 .0)) (now (x .1 .1 .1 .0)))) (batch-run-batch-of-64.Post κs)
   batch-run-batch-of-64-determined i r r′ x x′ p q = p ∙ sym q
 
 -- the clause of `break_060_pipeline` is the relation, in any model
@@ -58,9 +59,9 @@ module _ (κs : Lifetimes.Lfts 1) {M : Type 1} (𝓤 : URA M) (H : Heap 𝓤) (A
   window-break-is a r e = refl
 
 -- the contract of `run_batch` with the relation for its clause: the clause is that, in any model, and the code meets it
-module _ (κs : Lifetimes.Lfts 2) where
+module _ (κs : Lifetimes.Lfts 3) where
   abbrev pub RunBatchAllows : Args batch-run-batch.signature κs → Res batch-run-batch.signature κs → AtExit batch-run-batch.ended κs → Type 0
-  RunBatchAllows a r e = BatchAllows (record { records = now (a .0); places = now (a .1 .0); chosen = a .1 .1 .0 }) r (now (e .1 .0))
+  RunBatchAllows a r e = BatchAllows (record { records = now (a .0); lent = runs (now (a .1 .0)) (now (a .1 .1 .0)); chosen = a .1 .1 .1 .0 }) r (runs (now (e .1 .0)) (now (e .1 .1 .0)))
 
   module _ {M : Type 1} (𝓤 : URA M) (H : Heap 𝓤) (A : Atoms 𝓤) (mem : Memory → SProp 𝓤) (run : Routine → Fun 𝓤) where
     pub batch-run-batch-is : (a : Args batch-run-batch.signature κs) (r : Res batch-run-batch.signature κs) (e : AtExit batch-run-batch.ended κs)

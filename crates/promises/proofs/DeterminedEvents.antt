@@ -33,6 +33,7 @@ use Rattle.branch_cache.proofs.BranchCache060.predict.Reads as branch-cache-bra
 use Rattle.branch_cache.proofs.BranchCache060.update.Reads as branch-cache-branchcache060-update
 use Rattle.branch_cache.proofs.update_at.Reads as branch-cache-update-at
 use Rattle.cost.proofs.branch_cost_060.Reads as cost-branch-cost-060
+use Rattle.cost.proofs.answer_number.Reads as cost-answer-number
 use Rattle.cost.proofs.as_head.Reads as cost-as-head
 use Rattle.state.proofs.answer_of.Reads as state-answer-of
 use Rattle.state.proofs.consulted.Reads as state-consulted
@@ -50,6 +51,9 @@ module _ (κs : Lifetimes.Lfts 0) where
 
   pub cost-as-head-determined : Determined result (cost-as-head.Post κs)
   cost-as-head-determined i r r′ x x′ p q = p ∙ sym q
+
+  pub cost-answer-number-determined : Determined result (cost-answer-number.Post κs)
+  cost-answer-number-determined i r r′ x x′ p q = p ∙ sym q
 
   pub cost-branch-cost-060-determined : Determined result (cost-branch-cost-060.Post κs)
   cost-branch-cost-060-determined i r r′ x x′ p q = p ∙ sym q

@@ -4,13 +4,14 @@ use mathlib.Core.Path.{sym, _∙_}
 use mathlib.Core.List.{[]}
 use contract.Lifetimes
 use denote.Ref.{now}
-use Rattle.class_word.specs.Word.{clocks}
 use Rattle.in_place.specs.Lent.{lent}
-use Rattle.in_place.specs.Retire.{paid}
+use Rattle.in_place.specs.Retire.{paidBy}
+use Rattle.refusals.specs.Runs.{runs}
 use Rattle.host.specs.HostRan.{hostOutcome}
 use Rattle.host.specs.HostImages.{hostImage, hostState}
 use Rattle.profile.specs.declared.Profile.the-variants.{Crate}
 use Rattle.promises.specs.Determined.{Determined, result}
+use Rattle.promises.proofs.DeterminedInPlace.{one-number}
 use Rattle.host.proofs.timing_060_fresh_at.Reads as host-timing-060-fresh-at
 use Rattle.host.proofs.timing_060_retire_at.Reads as host-timing-060-retire-at
 use Rattle.host.proofs.timing_060_break_at.Reads as host-timing-060-break-at
@@ -49,8 +50,11 @@ module _ (κs : Lifetimes.Lfts 3) where
   pub host-timing-060-fresh-at-determined : Determined (λ r x. lent (now (x .0)) (now (x .1 .0)) (now (x .1 .1 .0))) (host-timing-060-fresh-at.Post κs)
   host-timing-060-fresh-at-determined i r r′ x x′ p q = p ∙ sym q
 
-  pub host-timing-060-retire-at-determined : Determined (λ r x. paid (clocks r) (lent (now (x .0)) (now (x .1 .0)) (now (x .1 .1 .0)))) (host-timing-060-retire-at.Post κs)
+  pub host-timing-060-retire-at-determined : Determined (λ r x. paidBy r (lent (now (x .0)) (now (x .1 .0)) (now (x .1 .1 .0)))) (host-timing-060-retire-at.Post κs)
   host-timing-060-retire-at-determined i r r′ x x′ p q = p ∙ sym q
+
+  pub host-timing-060-retire-at-number-determined : Determined result (host-timing-060-retire-at.Post κs)
+  host-timing-060-retire-at-number-determined i r r′ x x′ p q = one-number r r′ (p ∙ sym q)
 
 module _ (κs : Lifetimes.Lfts 4) where
   pub host-timing-060-image-write-at-determined : Determined (λ r x. hostImage r (now (x .1 .1 .1 .0))) (host-timing-060-image-write-at.Post κs)
@@ -59,11 +63,11 @@ module _ (κs : Lifetimes.Lfts 4) where
   pub host-timing-060-image-read-at-determined : Determined (λ r x. hostState r (lent (now (x .1 .0)) (now (x .1 .1 .0)) (now (x .1 .1 .1 .0)))) (host-timing-060-image-read-at.Post κs)
   host-timing-060-image-read-at-determined i r r′ x x′ p q = p ∙ sym q
 
-module _ (κs : Lifetimes.Lfts 5) where
+module _ (κs : Lifetimes.Lfts 6) where
   pub host-timing-060-run-trace-at-determined : Determined
-      (λ r x. hostOutcome r (now (x .1 .0)) (lent (now (x .1 .1 .0)) (now (x .1 .1 .1 .0)) (now (x .1 .1 .1 .1 .0)))) (host-timing-060-run-trace-at.Post κs)
+      (λ r x. hostOutcome r (runs (now (x .1 .0)) (now (x .1 .1 .1 .1 .1 .1 .0))) (lent (now (x .1 .1 .0)) (now (x .1 .1 .1 .0)) (now (x .1 .1 .1 .1 .0)))) (host-timing-060-run-trace-at.Post κs)
   host-timing-060-run-trace-at-determined i r r′ x x′ p q = p ∙ sym q
 
   pub host-timing-060-run-batch-at-determined : Determined
-      (λ r x. hostOutcome r (now (x .1 .0)) (lent (now (x .1 .1 .0)) (now (x .1 .1 .1 .0)) (now (x .1 .1 .1 .1 .0)))) (host-timing-060-run-batch-at.Post κs)
+      (λ r x. hostOutcome r (runs (now (x .1 .0)) (now (x .1 .1 .1 .1 .1 .1 .0))) (lent (now (x .1 .1 .0)) (now (x .1 .1 .1 .0)) (now (x .1 .1 .1 .1 .0)))) (host-timing-060-run-batch-at.Post κs)
   host-timing-060-run-batch-at-determined i r r′ x x′ p q = p ∙ sym q

@@ -7,6 +7,7 @@ use native.Mathlib.Omega.{arith}
 use lib.ListN.{length}
 use contract.Lifetimes
 use denote.Ref.{now}
+use Rattle.refusals.specs.Runs.{runs}
 use Rattle.trace.specs.Run.{traceOutcome}
 use Rattle.image.specs.Entries.{imageOutcome}
 use Rattle.text.specs.Written.{written}
@@ -102,8 +103,8 @@ module _ (κs : Lifetimes.Lfts 1) where
   pub rule-text-put-page-determined : Determined (λ r x. written r (now (x .0))) (rule-text-put-page.Post κs)
   rule-text-put-page-determined i r r′ x x′ p q = p .0 ∙ sym (q .0)
 
-module _ (κs : Lifetimes.Lfts 2) where
-  pub trace-run-trace-determined : Determined (λ r x. traceOutcome r (now (x .1 .0))) (trace-run-trace.Post κs)
+module _ (κs : Lifetimes.Lfts 3) where
+  pub trace-run-trace-determined : Determined (λ r x. traceOutcome r (runs (now (x .1 .0)) (now (x .1 .1 .0)))) (trace-run-trace.Post κs)
   trace-run-trace-determined i r r′ x x′ p q = p ∙ sym q
 
 -- what the tools print

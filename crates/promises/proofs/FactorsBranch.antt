@@ -13,6 +13,7 @@ use Rattle.state.specs.declared.Oep060Timing.{Oep060Timing}
 use Rattle.state.specs.declared.Retirement.{Retirement}
 use Rattle.step.specs.Boards.{steppedOf}
 use Rattle.promises.specs.Factors.{BranchFactors, Factors, factorsOf, branchFactorsOf, coarse, ofBranch, SameChange, SameStep}
+use Rattle.promises.proofs.FactorsAnswer.{answerOn, step-answer}
 use Rattle.promises.proofs.FactorsCost.{costFrom, windowFrom}
 use Rattle.promises.proofs.FactorsCache.{byteFrom, changed}
 use Rattle.promises.proofs.FactorsStep.{costOn, windowOn, byteOn, step-cost, step-window, step-cache, change-by, whole-by, slots-by}
@@ -62,6 +63,7 @@ module _ (P : Profile) (t t' : Oep060Timing) (r r' : Retirement) (h : Branches P
   same-branch =
       record {
         cost = b-cost P t r h ∙ ap (costOn P) e ∙ sym (b-cost P t' r' h');
+        answer = step-answer P t r ∙ ap answerOn e ∙ sym (step-answer P t' r');
         window = b-same;
         whole = whole-by P t t' r r' (ap (λ (f : Factors). f .op) e) b-same;
         cache = b-change;

@@ -4,10 +4,9 @@ use Prim.Native.Nat.{ℕ, _+_, _-_, max}
 use mathlib.Core.Path.{_≡_, refl, sym, ap, _∙_}
 use mathlib.Core.Bool.{Bool, true, false, not, cond, _&&_, _||_}
 use mathlib.Core.Option.{Option, none, some}
-use lib.Dec.{eqb, leb}
+use lib.Dec.{eqb}
 use Rattle.class_word.specs.Word.{has, classOf, clocksOf, BRANCH, DBCC, VARIABLE, UNCLASSIFIED, «EA_INDEXED», «DEFINES_CCR», «USES_CCR_LATE»}
-use Rattle.branch_cache.specs.declared.slot.Predicted.the-variants as P
-use Rattle.branch_cache.specs.Slot.{counterOf, validOf, predictOf}
+use Rattle.branch_cache.specs.Slot.{predictOf}
 use Rattle.branch_cache.specs.Cache.{cachePredictOf}
 use Rattle.window.specs.declared.dispatch.Instruction.{Instruction}
 use Rattle.window.specs.declared.dispatch.Controls.{Controls}
@@ -29,6 +28,7 @@ use Rattle.state.specs.Events.{heard, answerOf, asMet}
 use Rattle.state.specs.CrateCache.{crateCache}
 use Rattle.state.specs.Timing.{stateOf}
 use Rattle.promises.specs.Factors.{BranchFactors, Factors, touchedOf, branchFactorsOf, factorsOf, coarse}
+use Rattle.promises.proofs.FactorsAnswer.{answerFrom}
 
 -- ---- of an instruction and factors
 
@@ -57,14 +57,9 @@ headBy i f =
 abbrev pub takenBy : Instruction → Factors → BranchFactors → Bool
 takenBy i f b = cond (has (i .word .0) DBCC) (not (b .through)) (f .flowed)
 
-abbrev answerBy : Factors → BranchFactors → Answer
-answerBy f b =
-    cond (f .ebc && f .cached) (heard (cond (validOf (b .byte) && b .tagEqual) (cond (leb 2 (counterOf (b .byte))) P.Taken P.NotTaken) P.Miss))
-    NotConsulted
-
 abbrev pub costFrom : Instruction → Factors → Option BranchFactors → ℕ
 costFrom i f none = cond (f .flowed) (max (f .fallback) 5) (cond (joinsBy i f) (baseBy i f - 1) (baseBy i f))
-costFrom i f (some b) = branchCost (has (i .word .0) DBCC) (takenBy i f b) (f .opened) (answerBy f b)
+costFrom i f (some b) = branchCost (has (i .word .0) DBCC) (takenBy i f b) (f .opened) (answerFrom (f .ebc && f .cached) (some b))
 
 abbrev pub windowFrom : Instruction → Factors → Option BranchFactors → Window
 windowFrom i f none = cond (not (f .flowed) && (not (joinsBy i f) && not (eqb (classOf (i .word .0)) 1))) (headBy i f) shut

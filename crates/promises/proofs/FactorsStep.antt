@@ -1,4 +1,4 @@
--- Equal factors give the same step: the cost, the window and the cache's change are each made of the factors.
+-- Equal factors give the same step: the cost, the cache's answer, the window and the cache's change are each made of the factors.
 -- Assumes nothing.
 use Prim.Native.Nat.{ℕ}
 use mathlib.Core.Path.{_≡_, refl, sym, ap, ap₂, _∙_}
@@ -21,6 +21,7 @@ use Rattle.state.specs.Timing.{steppedBy}
 use Rattle.step.specs.Boards.{steppedOf}
 use Rattle.image.specs.Image.{InRange}
 use Rattle.promises.specs.Factors.{Factors, factorsOf, coarse, holding, SameChange, kept, put, SameStep}
+use Rattle.promises.proofs.FactorsAnswer.{answerOn, step-answer}
 use Rattle.promises.proofs.FactorsCost.{costFrom, windowFrom, cost-is, window-is}
 use Rattle.promises.proofs.FactorsCache.{byteFrom, changed, cache-is, held-same}
 
@@ -112,6 +113,7 @@ module _ (P : Profile) (t t' : Oep060Timing) (r r' : Retirement) where
     same-step =
         record {
           cost = step-cost P t r ∙ ap (costOn P) e ∙ sym (step-cost P t' r');
+          answer = step-answer P t r ∙ ap answerOn e ∙ sym (step-answer P t' r');
           window = same-window;
           whole = whole-by (ap (λ (f : Factors). f .op) e) same-window;
           cache = same-change;

@@ -11,6 +11,8 @@ pub mod Demand
 pub mod DeterminedWords
 pub mod DeterminedEvents
 pub mod Images
+pub mod Answers
+pub mod OldRuns
 pub mod OldReader
 pub mod Unnamed
 pub mod Heads
@@ -23,6 +25,7 @@ pub mod DeterminedInPlace
 pub mod DeterminedByHand
 pub mod Moving
 pub mod MovingHosts
+pub mod FactorsAnswer
 pub mod FactorsCost
 pub mod FactorsCache
 pub mod FactorsStep

@@ -22,12 +22,13 @@ use Rattle.step.specs.Boards.{boardOf}
 use Rattle.refusals.specs.declared.Verdict.{Verdict}
 use Rattle.refusals.specs.declared.Verdict.the-variants.{Accepted, Refused}
 use Rattle.refusals.specs.Given.{isAccepted}
+use Rattle.refusals.specs.Runs.{Runs, roomsOf}
 use Rattle.records.specs.Trace.{Trace, events, refused, readTrace}
 use Rattle.records.specs.TraceTable.{Accepts}
 use Rattle.records.specs.Judged.{judgedTrace}
 use Rattle.records.proofs.Refused.{sound-then}
 use Rattle.trace.specs.Run.{TraceOutcome, costsOf, traceOutcomeOf, runTraceOf}
-use Rattle.trace.proofs.Parts.{costs-length}
+use Rattle.trace.proofs.Parts.{each-count}
 use Rattle.trace.proofs.Refused.{run-accepted}
 use Rattle.batch.specs.Judge.{batchVerdictOf}
 use Rattle.batch.specs.Batch.{eventsOf, batchOutcomeBy, batchOf}
@@ -43,7 +44,7 @@ use Rattle.records.specs.Record.{remaining}
 
 module _ (P : Profile) (s : State crateCache) (es : List Event) where
   counted : length (retirements (boardOf P) s es) ≡ countOf es
-  counted = sym (length-map (retirements (boardOf P) s es) costOf) ∙ costs-length (boardOf P) s es
+  counted = sym (length-map (retirements (boardOf P) s es) costOf) ∙ each-count (boardOf P) costOf s es
 
   at-least : countOf es / 2 ≤ total (costs (boardOf P) s es)
   at-least = rw (← counted) (board-demand3 P .atLeast s es)
@@ -55,7 +56,7 @@ module _ (P : Profile) (s : State crateCache) (es : List Event) where
 still-shut : (t : Oep060Timing) → t .window .opened ≡ false → stateOf (seenOf t) .window .opened ≡ false
 still-shut t h = rw h
 
-module _ (P : Profile) (lent : List ℕ) (t : Oep060Timing) where
+module _ (P : Profile) (lent : Runs) (t : Oep060Timing) where
   trace-by : (said : Trace) → traceOutcomeOf P said lent t .ran .count / 2 ≤ traceOutcomeOf P said lent t .ran .total
   trace-by (events es) = at-least P (stateOf (seenOf t)) es
   trace-by (refused refusal) = omega arith
@@ -64,31 +65,31 @@ module _ (P : Profile) (lent : List ℕ) (t : Oep060Timing) where
   trace-shut-by h (events es) = at-least-shut P (stateOf (seenOf t)) es (still-shut t h)
   trace-shut-by h (refused refusal) = omega arith
 
-module _ (P : Profile) (trace lent : List ℕ) (t : Oep060Timing) where
+module _ (P : Profile) (trace : List ℕ) (lent : Runs) (t : Oep060Timing) where
   trace-moves : runTraceOf P trace lent t .ran .count / 2 ≤ runTraceOf P trace lent t .ran .total
   unfolding runTraceOf
-  trace-moves = trace-by P lent t (judgedTrace trace (length lent))
+  trace-moves = trace-by P lent t (judgedTrace trace (roomsOf lent))
 
   trace-moves-shut : t .window .opened ≡ false → (runTraceOf P trace lent t .ran .count + 1) / 2 ≤ runTraceOf P trace lent t .ran .total
   unfolding runTraceOf
-  trace-moves-shut h = trace-shut-by P lent t h (judgedTrace trace (length lent))
+  trace-moves-shut h = trace-shut-by P lent t h (judgedTrace trace (roomsOf lent))
 
-module _ (P : Profile) (rs : List Retirement) (ps : List ℕ) (t : Oep060Timing) where
-  batch-by : (v : Verdict) → batchOutcomeBy P v rs ps t .ran .count / 2 ≤ batchOutcomeBy P v rs ps t .ran .total
+module _ (P : Profile) (rs : List Retirement) (lent : Runs) (t : Oep060Timing) where
+  batch-by : (v : Verdict) → batchOutcomeBy P v rs lent t .ran .count / 2 ≤ batchOutcomeBy P v rs lent t .ran .total
   batch-by Accepted = rw (← all-count rs) (at-least P (stateOf (seenOf t)) (eventsOf rs))
   batch-by (Refused refusal) = omega arith
 
-  batch-shut-by : t .window .opened ≡ false → (v : Verdict) → (batchOutcomeBy P v rs ps t .ran .count + 1) / 2 ≤ batchOutcomeBy P v rs ps t .ran .total
+  batch-shut-by : t .window .opened ≡ false → (v : Verdict) → (batchOutcomeBy P v rs lent t .ran .count + 1) / 2 ≤ batchOutcomeBy P v rs lent t .ran .total
   batch-shut-by h Accepted = rw (← all-count rs) (at-least-shut P (stateOf (seenOf t)) (eventsOf rs) (still-shut t h))
   batch-shut-by h (Refused refusal) = omega arith
 
-  batch-moves : batchOf P rs ps t .ran .count / 2 ≤ batchOf P rs ps t .ran .total
+  batch-moves : batchOf P rs lent t .ran .count / 2 ≤ batchOf P rs lent t .ran .total
   unfolding batchOf
-  batch-moves = batch-by (batchVerdictOf (length rs) (length ps))
+  batch-moves = batch-by (batchVerdictOf (length rs) (roomsOf lent))
 
-  batch-moves-shut : t .window .opened ≡ false → (batchOf P rs ps t .ran .count + 1) / 2 ≤ batchOf P rs ps t .ran .total
+  batch-moves-shut : t .window .opened ≡ false → (batchOf P rs lent t .ran .count + 1) / 2 ≤ batchOf P rs lent t .ran .total
   unfolding batchOf
-  batch-moves-shut h = batch-shut-by h (batchVerdictOf (length rs) (length ps))
+  batch-moves-shut h = batch-shut-by h (batchVerdictOf (length rs) (roomsOf lent))
 
 -- ---- the zeros
 
@@ -113,33 +114,33 @@ costs-small P s (ClearedUser ∷ es) w i = costs-small P (after (boardOf P) s Cl
 raws-of : (trace : List ℕ) (es : List Event) → readTrace trace ≡ events es → Raws es
 raws-of trace es e = subst (Short (remaining trace 0)) e (short trace) .1
 
-module _ (P : Profile) (trace lent : List ℕ) (t : Oep060Timing) (es : List Event) (ok : Accepts trace (length lent) es) where
+module _ (P : Profile) (trace : List ℕ) (lent : Runs) (t : Oep060Timing) (es : List Event) (ok : Accepts trace (roomsOf lent) es) where
   abbrev ns : List ℕ
   ns = costsOf P t es
 
   -- the numbers that stand in the lent bytes are the costs
-  stand : numbersAt (countOf es) 4 (runTraceOf P trace lent t .bytes) 0 ≡ ns
+  stand : numbersAt (countOf es) 4 (runTraceOf P trace lent t .lent .costs) 0 ≡ ns
   unfolding putAt
   stand =
-      ap₂ (λ (n : ℕ) (o : TraceOutcome). numbersAt n 4 (o .bytes) 0) (sym (costs-length (boardOf P) (stateOf (seenOf t)) es)) (run-accepted P trace lent t ok)
+      ap₂ (λ (n : ℕ) (o : TraceOutcome). numbersAt n 4 (o .lent .costs) 0) (sym (each-count (boardOf P) costOf (stateOf (seenOf t)) es)) (run-accepted P trace lent t ok)
       ∙ numbers-each 4 ns _ (costs-small P (stateOf (seenOf t)) es (raws-of trace es (sound-then trace (ok .records))))
 
-  trace-zero : map isZero (numbersAt (countOf es) 4 (runTraceOf P trace lent t .bytes) 0) ≡ map (isFree P) (meetings P (stateOf (seenOf t)) es)
+  trace-zero : map isZero (numbersAt (countOf es) 4 (runTraceOf P trace lent t .lent .costs) 0) ≡ map (isFree P) (meetings P (stateOf (seenOf t)) es)
   trace-zero = ap (map isZero) stand ∙ zeros P (stateOf (seenOf t)) es
 
-module _ (P : Profile) (rs : List Retirement) (ps : List ℕ) (t : Oep060Timing) where
-  batch-zero-by : (v : Verdict) → isAccepted (batchOutcomeBy P v rs ps t .ran .verdict) ≡ true
-      → map isZero (take (length rs) (batchOutcomeBy P v rs ps t .places)) ≡ map (isFree P) (meetings P (stateOf (seenOf t)) (eventsOf rs))
+module _ (P : Profile) (rs : List Retirement) (lent : Runs) (t : Oep060Timing) where
+  batch-zero-by : (v : Verdict) → isAccepted (batchOutcomeBy P v rs lent t .ran .verdict) ≡ true
+      → map isZero (take (length rs) (batchOutcomeBy P v rs lent t .lent .costs)) ≡ map (isFree P) (meetings P (stateOf (seenOf t)) (eventsOf rs))
   batch-zero-by Accepted h =
       ap (map isZero)
-      (take-at (costs (boardOf P) (stateOf (seenOf t)) (eventsOf rs)) (drop (length rs) ps) (length rs) (costs-length (boardOf P) (stateOf (seenOf t)) (eventsOf rs) ∙ all-count rs))
+      (take-at (costs (boardOf P) (stateOf (seenOf t)) (eventsOf rs)) (drop (length rs) (lent .costs)) (length rs) (each-count (boardOf P) costOf (stateOf (seenOf t)) (eventsOf rs) ∙ all-count rs))
       ∙ zeros P (stateOf (seenOf t)) (eventsOf rs)
   batch-zero-by (Refused refusal) h = absurd (true≢false (sym h))
 
-  batch-zero : isAccepted (batchOf P rs ps t .ran .verdict) ≡ true
-      → map isZero (take (length rs) (batchOf P rs ps t .places)) ≡ map (isFree P) (meetings P (stateOf (seenOf t)) (eventsOf rs))
+  batch-zero : isAccepted (batchOf P rs lent t .ran .verdict) ≡ true
+      → map isZero (take (length rs) (batchOf P rs lent t .lent .costs)) ≡ map (isFree P) (meetings P (stateOf (seenOf t)) (eventsOf rs))
   unfolding batchOf
-  batch-zero = batch-zero-by (batchVerdictOf (length rs) (length ps))
+  batch-zero = batch-zero-by (batchVerdictOf (length rs) (roomsOf lent))
 
 pub time-moves : (P : Profile) → TimeMoves P
 time-moves P =

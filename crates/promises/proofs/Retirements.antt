@@ -29,6 +29,7 @@ every-event P =
     record {
       stepCost = λ t r. refl;
       stepState = λ t r. refl;
+      stepAnswer = λ t r. refl;
       pairCost = λ r p. pair-cost r (p .straight) (p .kept) (p .waiting) (p .passed);
       pairCostsNothing = λ t r p. pair-costs-nothing (retiringOf (boardOf P) (stateOf t) r) (profile-sound P (r .op)) (p .kept) (p .waiting) (p .passed);
       passingClass = λ i k w p. passes-simple i k w p .class0;

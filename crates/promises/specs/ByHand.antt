@@ -7,13 +7,13 @@
 --                                 returns nothing, which is r
 --   BreakInPlaceAllows w r x  ==  `break_in_place`, handed the window w, may return r: the shut one. It is lent
 --                                 nothing, which is x
---   Batch                     ==  what `run_batch` is handed: the lent records, the lent places, and the state with its
---                                 profile
---   BatchAllows b ran ps      ==  `run_batch`, handed b, may return ran and leave the places ps: both as `batchOf` has
+--   Batch                     ==  what `run_batch` is handed: the lent records, the two lent runs for costs and
+--                                 answers, and the state with its profile
+--   BatchAllows b ran x       ==  `run_batch`, handed b, may return ran and leave the two runs x: both as `batchOf` has
 --                                 them
---   BatchOf64                 ==  what `run_batch_of_64` is handed: its 64 records, how many of them to run, the lent
---                                 places, and the state with its profile
---   BatchOf64Allows b ran ps  ==  `run_batch_of_64`, handed b, may return ran and leave the places ps: both as
+--   BatchOf64                 ==  what `run_batch_of_64` is handed: its 64 records, how many of them to run, the two
+--                                 lent runs, and the state with its profile
+--   BatchOf64Allows b ran x   ==  `run_batch_of_64`, handed b, may return ran and leave the two runs x: both as
 --                                 `batchOf` has them of so many records, the first ones
 --   ByHand                    ==  the four facts: of each function any two answers that are allowed at one input are
 --                                 equal, what is returned and everything that was lent to write
@@ -25,6 +25,7 @@ use Rattle.window.specs.declared.Window.{Window}
 use Rattle.window.specs.Windows.{shut}
 use Rattle.state.specs.declared.Retirement.{Retirement}
 use Rattle.refusals.specs.declared.outcome.Ran.{Ran}
+use Rattle.refusals.specs.Runs.{Runs}
 use Rattle.step.specs.declared.Chosen.{Chosen}
 use Rattle.batch.specs.Batch.{batchOutcome, batchOf}
 use Rattle.promises.specs.Determined.{Determined, result}
@@ -37,20 +38,20 @@ BreakInPlaceAllows w r x = r ≡ shut
 
 pub record Batch : Type 0 where
   pub records : List Retirement
-  pub places : List ℕ
+  pub lent : Runs
   pub chosen : Chosen
 
-abbrev pub BatchAllows : Batch → Ran → List ℕ → Type 0
-BatchAllows b ran ps = batchOutcome ran ps ≡ batchOf (b .chosen .profile) (b .records) (b .places) (b .chosen .timing)
+abbrev pub BatchAllows : Batch → Ran → Runs → Type 0
+BatchAllows b ran x = batchOutcome ran x ≡ batchOf (b .chosen .profile) (b .records) (b .lent) (b .chosen .timing)
 
 pub record BatchOf64 : Type 0 where
   pub records : List Retirement
   pub count : ℕ
-  pub places : List ℕ
+  pub lent : Runs
   pub chosen : Chosen
 
-abbrev pub BatchOf64Allows : BatchOf64 → Ran → List ℕ → Type 0
-BatchOf64Allows b ran ps = batchOutcome ran ps ≡ batchOf (b .chosen .profile) (take (b .count) (b .records)) (b .places)
+abbrev pub BatchOf64Allows : BatchOf64 → Ran → Runs → Type 0
+BatchOf64Allows b ran x = batchOutcome ran x ≡ batchOf (b .chosen .profile) (take (b .count) (b .records)) (b .lent)
     (b .chosen .timing)
 
 pub record ByHand : Type 0 where

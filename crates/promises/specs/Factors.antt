@@ -1,9 +1,9 @@
 -- What one retirement can be told apart by, its factors: the opcode; the five flags; of the window whether it is open,
 -- which registers of its def mask the follower touches, CCR, memory, cached; of the raw count what the fallback makes
 -- of it; and of a branch the slot's byte, whether its tag is equal, and whether pc is ppc + 4. Two retirements with
--- equal factors cost the same, leave the same window, read without its head's opcode and address, and do the same to
--- the cache, each at its own address; at one address the windows are the same whole, and the states then differ only
--- where they differed before.
+-- equal factors cost the same, hear the same answer of the cache, leave the same window, read without its head's
+-- opcode and address, and do the same to the cache, each at its own address; at one address the windows are the same
+-- whole, and the states then differ only where they differed before.
 --
 -- In each, p is the profile.
 --   Factors                 ==  the factors, in this order
@@ -23,8 +23,8 @@
 --   charged form n          ==  the cost of this form, the fallback being n
 --   holding c ppc byte      ==  the cache c with this byte, under the tag ppc, in the slot that ppc goes to
 --   SameChange p t t' r r'  ==  what r does to the cache of t, r' does to that of t'
---   SameStep p t t' r r'    ==  r in t and r' in t' cost the same, leave the same window, read without its head's
---                               opcode and address, and do the same to the cache
+--   SameStep p t t' r r'    ==  r in t and r' in t' cost the same, hear the same answer of the cache, leave the same
+--                               window, read without its head's opcode and address, and do the same to the cache
 --   EqualFactors p          ==  the facts, each for every two states and retirements
 --
 -- `InRange t` says what the code's types hold always: arrays of 256 elements, and numbers that fit.
@@ -161,6 +161,8 @@ pub data SameChange (p : Profile) (t t' : Oep060Timing) (r r' : Retirement) : Ty
 pub record SameStep (p : Profile) (t t' : Oep060Timing) (r r' : Retirement) : Type 0 where
   -- they cost the same
   pub cost : steppedOf p t r .cost ≡ steppedOf p t' r' .cost
+  -- and hear the same answer of the cache
+  pub answer : steppedOf p t r .answer ≡ steppedOf p t' r' .answer
   -- and leave the same window, read without the head's opcode and address
   pub window : unnamed (steppedOf p t r .timing .window) ≡ unnamed (steppedOf p t' r' .timing .window)
   -- both caches stay, or get the same byte
@@ -192,4 +194,4 @@ pub record EqualFactors (p : Profile) : Type 0 where
   pub equalButFallback : (t t' : Oep060Timing) (r r' : Retirement)
       → withFallback (coarse (factorsOf p t r)) 0 ≡ withFallback (coarse (factorsOf p t' r')) 0
       → (unnamed (steppedOf p t r .timing .window) ≡ unnamed (steppedOf p t' r' .timing .window))
-      × SameChange p t t' r r'
+      × SameChange p t t' r r' × (steppedOf p t r .answer ≡ steppedOf p t' r' .answer)

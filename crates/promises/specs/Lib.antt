@@ -10,6 +10,8 @@
 --   Traces       ==  what holds of every run of a trace
 --   Batches      ==  what holds of every batch
 --   Images       ==  what holds of every state image
+--   Answers      ==  what holds of the cache's answers that steps, runs and batches tell
+--   OldRuns      ==  steps, runs and batches before they told an answer, and that no cost moved
 --   OldReader    ==  the reader of images before kind 17, and what it meets
 --   Heads        ==  what holds of the head's opcode and address
 --   OverPairing  ==  a pair whose follower touches what its head writes
@@ -26,6 +28,8 @@ pub mod Moving
 pub mod Traces
 pub mod Batches
 pub mod Images
+pub mod Answers
+pub mod OldRuns
 pub mod OldReader
 pub mod Heads
 pub mod OverPairing

@@ -25,6 +25,7 @@ use Rattle.state.specs.CrateCache.{crateCache}
 use Rattle.state.specs.Timing.{stateOf, seenOf}
 use Rattle.step.specs.Boards.{boardOf}
 use Rattle.refusals.specs.Given.{isAccepted}
+use Rattle.refusals.specs.Runs.{Runs, roomsOf}
 use Rattle.records.specs.TraceTable.{Accepts}
 use Rattle.trace.specs.Run.{runTraceOf}
 use Rattle.batch.specs.Batch.{eventsOf, batchOf}
@@ -52,20 +53,20 @@ pub record TimeMoves (p : Profile) : Type 0 where
   -- the demand, of this board
   pub board : Demand3 (boardOf p)
   -- "n retirements cost at least n/2 rounded down,"
-  pub trace : (trace lent : List ℕ) (t : Oep060Timing)
+  pub trace : (trace : List ℕ) (lent : Runs) (t : Oep060Timing)
       → runTraceOf p trace lent t .ran .count / 2 ≤ runTraceOf p trace lent t .ran .total
-  pub batch : (rs : List Retirement) (ps : List ℕ) (t : Oep060Timing)
-      → batchOf p rs ps t .ran .count / 2 ≤ batchOf p rs ps t .ran .total
+  pub batch : (rs : List Retirement) (lent : Runs) (t : Oep060Timing)
+      → batchOf p rs lent t .ran .count / 2 ≤ batchOf p rs lent t .ran .total
   -- "or rounded up if the window began shut"
-  pub traceShut : (trace lent : List ℕ) (t : Oep060Timing) → t .window .opened ≡ false
+  pub traceShut : (trace : List ℕ) (lent : Runs) (t : Oep060Timing) → t .window .opened ≡ false
       → (runTraceOf p trace lent t .ran .count + 1) / 2 ≤ runTraceOf p trace lent t .ran .total
-  pub batchShut : (rs : List Retirement) (ps : List ℕ) (t : Oep060Timing) → t .window .opened ≡ false
-      → (batchOf p rs ps t .ran .count + 1) / 2 ≤ batchOf p rs ps t .ran .total
+  pub batchShut : (rs : List Retirement) (lent : Runs) (t : Oep060Timing) → t .window .opened ≡ false
+      → (batchOf p rs lent t .ran .count + 1) / 2 ≤ batchOf p rs lent t .ran .total
   -- "a retirement costs 0 exactly when the window was open and it either .. or ..": each cost in the lent places
-  pub traceZero : (trace lent : List ℕ) (t : Oep060Timing) (es : List Event) → Accepts trace (length lent) es
-      → map isZero (numbersAt (countOf es) 4 (runTraceOf p trace lent t .bytes) 0) ≡ map (isFree p)
+  pub traceZero : (trace : List ℕ) (lent : Runs) (t : Oep060Timing) (es : List Event) → Accepts trace (roomsOf lent) es
+      → map isZero (numbersAt (countOf es) 4 (runTraceOf p trace lent t .lent .costs) 0) ≡ map (isFree p)
       (meetings p (stateOf (seenOf t)) es)
-  pub batchZero : (rs : List Retirement) (ps : List ℕ) (t : Oep060Timing)
-      → isAccepted (batchOf p rs ps t .ran .verdict) ≡ true
-      → map isZero (take (length rs) (batchOf p rs ps t .places)) ≡ map (isFree p)
+  pub batchZero : (rs : List Retirement) (lent : Runs) (t : Oep060Timing)
+      → isAccepted (batchOf p rs lent t .ran .verdict) ≡ true
+      → map isZero (take (length rs) (batchOf p rs lent t .lent .costs)) ≡ map (isFree p)
       (meetings p (stateOf (seenOf t)) (eventsOf rs))

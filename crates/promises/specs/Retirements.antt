@@ -32,10 +32,12 @@ pub record Pairs (r : Retiring) : Type 0 where
   pub passed : passes (r .instruction) (r .controls) (r .window) ≡ true
 
 pub record EveryEvent (p : Profile) : Type 0 where
-  -- the promise of `cycles_060` is the machine's step: its cost, and the state after the retirement
+  -- the promise of `cycles_060` is the machine's step: its cost, the state after the retirement, and the cache's answer
   pub stepCost : (t : Oep060Timing) (r : Retirement)
       → steppedOf p t r .cost ≡ clocks (costOf (retiringOf (boardOf p) (stateOf t) r))
   pub stepState : (t : Oep060Timing) (r : Retirement) → steppedOf p t r .timing ≡ afterOf p t (Retired r)
+  pub stepAnswer : (t : Oep060Timing) (r : Retirement)
+      → steppedOf p t r .answer ≡ retiringOf (boardOf p) (stateOf t) r .answer
   -- "window shut, base less 1 (always 0)": over any class word the base less 1, never below 0; over those of a profile
   -- always 0
   pub pairCost : (r : Retiring) → Pairs r → costOf r ≡ baseOf (r .instruction) (r .controls) - 1

@@ -14,9 +14,10 @@ use Rattle.records.specs.declared.record.Read.{Read}
 use Rattle.records.specs.declared.record.Read.the-variants.{Got, Bad, End}
 use Rattle.records.specs.Record.{remaining, readAt}
 use Rattle.records.specs.Trace.{Trace, events, refused, ahead, readFrom, readTrace}
-use Rattle.records.specs.Judged.{withRoom, judgedTrace, verdictOf, Fits}
-use Rattle.records.specs.TraceTable.{Reached, start, past, Refuses, row1, rows2to6, row7, Accepts}
-use Rattle.records.proofs.Choices.{by-test}
+use Rattle.refusals.specs.Runs.{Rooms}
+use Rattle.records.specs.Judged.{short, withRoom, judgedTrace, verdictOf, Fits, FitsAnswers}
+use Rattle.records.specs.TraceTable.{Reached, start, past, Refuses, row1, rows2to6, row7, row7answers, Accepts}
+use Rattle.records.proofs.Choices.{by-test, or-right, or-neither, or-either}
 use Rattle.records.proofs.Reading.{read-end}
 use Rattle.records.proofs.Walking.{got-within, from-end, from-bad, from-got}
 use Rattle.records.proofs.RecordRows.{faulty-then, whole-then, faulty-only, whole-only, read-explained, Explained}
@@ -59,7 +60,7 @@ module _ (trace : List ℕ) where
   faulty-reads : {at : ℕ} {es : List Event} {refusal : Refusal} → Reached trace at es → readAt trace at ≡ Bad refusal → readTrace trace ≡ refused refusal
   faulty-reads {at} {es} {refusal} h f = reached-reads h ∙ ap (before es) (from-bad trace at refusal f) ∙ before-refused es refusal
 
-  module _ (room : ℕ) where
+  module _ (room : Rooms) where
     -- what is reached where the reading ends
     abbrev Ends : List Event → Trace → Type 0
     Ends es (events fs) = Reached trace (length trace) (es ++ fs)
@@ -99,10 +100,12 @@ module _ (trace : List ℕ) where
         let t = faulty-then trace at f in
         record { refusal = t .refusal; number = t .number; place = t .place; so = rw (le-ltb _ _ size, faulty-reads h (t .so)) }
     refuses-then (row7 size h l) = record { refusal = Room (length trace); number = refl; place = refl; so = rw (le-ltb _ _ size, sound-then h, lt-ltb _ _ l) }
+    refuses-then (row7answers {es} size h l) =
+        record { refusal = Room (length trace); number = refl; place = refl; so = rw (le-ltb _ _ size, sound-then h, or-right (ltb (room .costs) (4 * countOf es)) _ (lt-ltb _ _ l)) }
 
     pub accepts-then : {es : List Event} → Accepts trace room es → judgedTrace trace room ≡ events es
     unfolding judgedTrace
-    accepts-then a = rw (le-ltb _ _ (a .size), sound-then (a .records), le-ltb _ _ (a .enough))
+    accepts-then a = rw (le-ltb _ _ (a .size), sound-then (a .records), le-ltb _ _ (a .enough), le-ltb _ _ (a .enoughAnswers))
 
     -- only then: what the trace is judged to say, by the table
     abbrev Judged : Trace → Type 0
@@ -111,8 +114,10 @@ module _ (trace : List ℕ) where
 
     with-room : (t : Trace) → length trace ≤ 16777216 → Ends [] t → Judged (withRoom (length trace) room t)
     with-room (events es) size h =
-        by-test Judged (ltb room (4 * countOf es)) _ _ (λ l. row7 size h (ltb-true _ _ l))
-        (λ l. record { size = size; records = h; enough = ltb-false _ _ l })
+        by-test Judged (short room (countOf es)) _ _ (λ l. or-either (ltb (room .costs) (4 * countOf es)) (ltb (room .answers) (countOf es)) (λ c. row7 size h (ltb-true _ _ c)) (λ c. row7answers size h (ltb-true _ _ c)) l)
+        (λ l.
+        let both = or-neither (ltb (room .costs) (4 * countOf es)) (ltb (room .answers) (countOf es)) l in
+        record { size = size; records = h; enough = ltb-false _ _ (both .0); enoughAnswers = ltb-false _ _ (both .1) })
     with-room (refused refusal) size h = h size
 
     judged-so : Judged (judgedTrace trace room)
@@ -137,7 +142,8 @@ module _ (trace : List ℕ) where
 
     pub record Taken : Type 0 where
       pub size : length trace ≤ 16777216
-      pub fits : Fits 0 room (readTrace trace)
+      pub fits : Fits 0 (room .costs) (readTrace trace)
+      pub tells : FitsAnswers 0 (room .answers) (readTrace trace)
       pub same : judgedTrace trace room ≡ readTrace trace
 
     pub taken-so : verdictOf (judgedTrace trace room) ≡ Accepted → Taken
@@ -147,5 +153,10 @@ module _ (trace : List ℕ) where
         go (events es) q h =
             let a = accepts-only q in
             let s = sound-then (a .records) in
-            record { size = a .size; fits = subst (Fits 0 room) (sym s) (omega (arith, a .enough)); same = q ∙ sym s }
+            record {
+              size = a .size;
+              fits = subst (Fits 0 (room .costs)) (sym s) (omega (arith, a .enough));
+              tells = subst (FitsAnswers 0 (room .answers)) (sym s) (omega (arith, a .enoughAnswers));
+              same = q ∙ sym s;
+            }
         go (refused refusal) q h = let z : _≡_ {A = ℕ} 0 1 = cc in absurd (omega arith)

@@ -2,7 +2,7 @@
 -- its number is given. Rows 2 to 6 are those of a record (RecordTable). "Each number is given then and only then":
 -- promises/Traces shows that the run goes by these rows.
 --
--- room is how many bytes are lent for the costs.
+-- room is how many bytes are lent for the costs, and how many for the answers.
 --   Reached trace at es     ==  all records before the place `at` are sound, and es are their events
 --   Refuses trace room n p  ==  the trace is refused with the number n at the place p: a row of the table each
 --                               "Trace order: 1; then record by record 2 to 6; 7 after all records"
@@ -11,6 +11,7 @@ use Prim.Native.Nat.{ℕ, _*_, _≤_, _<_}
 use mathlib.Core.List.{List, [], _∷_, _++_}
 use lib.ListN.{length}
 use Rattle.state.specs.declared.Event.{Event}
+use Rattle.refusals.specs.Runs.{Rooms}
 use Rattle.records.specs.RecordTable.{Faulty, Whole}
 use Rattle.state.specs.Events.{countOf}
 
@@ -19,7 +20,7 @@ pub data Reached (trace : List ℕ) : ℕ → List Event → Type 0 where
   past : {at next : ℕ} {es : List Event} {e : Event} → Reached trace at es → Whole trace at e next
       → Reached trace next (es ++ e ∷ [])
 
-pub data Refuses (trace : List ℕ) (room : ℕ) : ℕ → ℕ → Type 0 where
+pub data Refuses (trace : List ℕ) (room : Rooms) : ℕ → ℕ → Type 0 where
   -- "trace over 16,777,216 bytes"
   row1 : 16777216 < length trace → Refuses trace room 1 0
   -- "record by record 2 to 6"
@@ -27,10 +28,15 @@ pub data Refuses (trace : List ℕ) (room : ℕ) : ℕ → ℕ → Type 0 where
       → length trace ≤ 16777216 → Reached trace at es → Faulty trace at n → Refuses trace room n at
   -- "under 4 bytes a retirement"
   row7 : {es : List Event}
-      → length trace ≤ 16777216 → Reached trace (length trace) es → room < 4 * countOf es
+      → length trace ≤ 16777216 → Reached trace (length trace) es → room .costs < 4 * countOf es
+      → Refuses trace room 7 (length trace)
+  -- document 02, R-5: "7 also when that run is short"
+  row7answers : {es : List Event}
+      → length trace ≤ 16777216 → Reached trace (length trace) es → room .answers < countOf es
       → Refuses trace room 7 (length trace)
 
-pub record Accepts (trace : List ℕ) (room : ℕ) (es : List Event) : Type 0 where
+pub record Accepts (trace : List ℕ) (room : Rooms) (es : List Event) : Type 0 where
   pub size : length trace ≤ 16777216
   pub records : Reached trace (length trace) es
-  pub enough : 4 * countOf es ≤ room
+  pub enough : 4 * countOf es ≤ room .costs
+  pub enoughAnswers : countOf es ≤ room .answers

@@ -17,6 +17,7 @@ ghost use mathlib.Core.List.{[], _∷_};
 ghost use Rattle.records.specs.Trace.{checkedOf, readTrace};
 ghost use Rattle.records.specs.Judged.{judgedTrace, verdictOf};
 ghost use Rattle.state.specs.Events.{countOf};
+ghost use Rattle.refusals.specs.Runs.{rooms};
 use refusals::Refusal;
 use refusals::Verdict;
 use state::Event;
@@ -65,9 +66,10 @@ pub fn check_all(trace: &[u8]) -> Checked
     }
 }
 
-// Whether a trace is taken with so many bytes lent for its costs, 4 for each retirement.
-pub fn judge_trace(trace: &[u8], room: usize) -> Verdict
-    ensures { λ r. ⌜ r ≡ verdictOf (judgedTrace (now (trace .entry)) room) ⌝ }
+// Whether a trace is taken with so many bytes lent for its costs, 4 for each retirement, and for its answers, 1 for
+// each.
+pub fn judge_trace(trace: &[u8], costs: usize, answers: usize) -> Verdict
+    ensures { λ r. ⌜ r ≡ verdictOf (judgedTrace (now (trace .entry)) (rooms costs answers)) ⌝ }
 {
     if MOST_TRACE_BYTES < trace.len() {
         return Verdict::Refused(Refusal::Oversized);
@@ -76,7 +78,10 @@ pub fn judge_trace(trace: &[u8], room: usize) -> Verdict
     match checked {
         Checked::Unsound(refusal) => Verdict::Refused(refusal),
         Checked::Sound(count) => {
-            if room / 4 < count {
+            if costs / 4 < count {
+                return Verdict::Refused(Refusal::Room(trace.len()));
+            }
+            if answers < count {
                 return Verdict::Refused(Refusal::Room(trace.len()));
             }
             Verdict::Accepted

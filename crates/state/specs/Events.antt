@@ -23,6 +23,8 @@
 --   retirements s es  ==  the retirements of a run of events, each as it was met
 --   finally s es      ==  the state after a run of events
 --   costs s es        ==  what each retirement of a run costs
+--   answers s es      ==  what the cache predicted of each, as a number
+--                         document 02, R-5: "one byte a retirement .. 0 to 3 in this order, 0 for non-branches"
 --   total ns          ==  their sum
 --   countOf es        ==  how many of the events are retirements
 --                         "the number of retirements"
@@ -40,7 +42,7 @@ use Rattle.cost.specs.declared.branch.Answer.the-variants.{NotConsulted, Miss, 
 use Rattle.cost.specs.Branch.{takenOf}
 use Rattle.cost.specs.Retiring.{Retiring, retiring}
 use Rattle.window.specs.Windows.{shut, seen}
-use Rattle.cost.specs.Cost.{costOf, windowOf}
+use Rattle.cost.specs.Cost.{costOf, windowOf, predictedOf}
 use Rattle.state.specs.declared.Retirement.{Retirement}
 use Rattle.state.specs.declared.Event.{Event}
 use Rattle.state.specs.declared.Event.the-variants.{Retired, Broken, ClearedAll, ClearedUser}
@@ -117,3 +119,6 @@ module _ (B : Board) where
 
   abbrev pub costs : State (B .rule) → List Event → List ℕ
   costs s es = map costOf (retirements s es)
+
+  abbrev pub answers : State (B .rule) → List Event → List ℕ
+  answers s es = map predictedOf (retirements s es)

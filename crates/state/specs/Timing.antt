@@ -5,7 +5,7 @@
 --   timingAt ts bs w       ==  the struct of these tags, bytes and window
 --   Asked, asked a c       ==  the cache's answer together with the next cache
 --   askedOf c i k          ==  the same of a cache, when an instruction retires
---   steppedBy t i r        ==  the whole state and the cost after an instruction retires as r
+--   steppedBy t i r        ==  the whole state and the cost after an instruction retires as r, and the cache's answer
 --   seenOf t               ==  the state as it is read
 --   brokenOf t             ==  the state after a break
 --   clearedOf t            ==  the state after a clear of all
@@ -62,6 +62,7 @@ unfoldable pub steppedBy : Oep060Timing → Instruction → Retirement → Stepp
 steppedBy t i r = record {
   timing = timingOf (past crateCache (stateOf t) i r);
   cost = clocks (costOf (asMet crateCache (stateOf t) i r));
+  answer = asMet crateCache (stateOf t) i r .answer;
 }
 
 abbrev pub seenOf : Oep060Timing → Oep060Timing

@@ -17,6 +17,7 @@ ghost use mathlib.Core.Path.{_≡_};
 ghost use Rattle.state.specs.Timing.{seenOf, brokenOf, clearedOf, userClearedOf, freshOf};
 use branch_cache::BranchCache060;
 use class_word::Clocks;
+use cost::Answer;
 use window::Controls;
 use window::Window;
 
@@ -42,10 +43,11 @@ pub struct Oep060Timing {
     pub window: Window,
 }
 
-// The next state, and what the retirement costs.
+// The next state, what the retirement costs, and what the branch cache said of it.
 pub struct Stepped {
     pub timing: Oep060Timing,
     pub cost: Clocks,
+    pub answer: Answer,
 }
 
 impl Oep060Timing {

@@ -4,7 +4,7 @@
 --
 -- In each, p is the profile.
 --   boardOf p        ==  the profile and the cache
---   steppedOf p t r  ==  the whole state and the cost after a retirement
+--   steppedOf p t r  ==  the whole state and the cost after a retirement, and the cache's answer
 --   afterOf p t e    ==  the state after an event
 use Rattle.profile.specs.declared.Profile.{Profile}
 use Rattle.profile.specs.Profile.{profileOf}

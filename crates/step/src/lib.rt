@@ -48,12 +48,18 @@ fn branch_060(mut timing: Oep060Timing, i: Instruction, r: Retirement) -> Steppe
     let taken = cost::taken(i, k);
     let opened = timing.window.opened;
     timing.window = Window::shut();
-    let answer = answered(timing.cache, i, k);
-    let cost = branch_cost_060(i.word.has(F_DBCC), taken, opened, answer);
+    let predicted = answered(timing.cache, i, k);
+    let charged = branch_cost_060(i.word.has(F_DBCC), taken, opened, predicted);
+    let cost = charged.cost;
+    let answer = charged.answer;
     if state::consulted(i, k) {
         timing.cache = timing.cache.update(k.ppc, taken, !k.supervisor);
     }
-    Stepped { timing, cost }
+    Stepped {
+        timing,
+        cost,
+        answer,
+    }
 }
 
 // Another change of flow, or neither: the dispatch test is in what it is charged.
@@ -69,7 +75,12 @@ fn other_060(mut timing: Oep060Timing, i: Instruction, r: Retirement) -> Stepped
     } else {
         timing.window = Window::shut();
     }
-    Stepped { timing, cost }
+    let answer = Answer::NotConsulted; // only a branch asks the cache
+    Stepped {
+        timing,
+        cost,
+        answer,
+    }
 }
 
 // The Rust's cycles_060: its lookup, read in the profile.

@@ -7,6 +7,7 @@ use lib.ListN.{length}
 use Rattle.little_endian.specs.Numbers.{Below}
 use Rattle.state.specs.declared.Event.{Event}
 use Rattle.state.specs.Events.{total, countOf}
+use Rattle.refusals.specs.Runs.{Rooms}
 use Rattle.records.specs.TraceTable.{Reached, start, past, Accepts}
 use Rattle.records.proofs.Walking.{got-within}
 use Rattle.records.proofs.Counting.{count-one}
@@ -19,7 +20,7 @@ reached-long trace start = omega arith
 reached-long trace (past {at} {next} {es} {e} h w) =
     omega (arith, reached-long trace h, count-append es (e ∷ []), count-one e, got-within trace at e next (whole-then trace at w) .0)
 
-pub accepted-few : (trace : List ℕ) (room : ℕ) {es : List Event} → Accepts trace room es → countOf es ≤ 838860
+pub accepted-few : (trace : List ℕ) (room : Rooms) {es : List Event} → Accepts trace room es → countOf es ≤ 838860
 accepted-few trace room a = let l = a .size in omega (arith, reached-long trace (a .records))
 
 total-most : (ns : List ℕ) → Below (2 ^ 32) ns → total ns ≤ length ns * 4294967295

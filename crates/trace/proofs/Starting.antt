@@ -7,11 +7,12 @@ use Rattle.window.specs.declared.Window.{Window}
 use Rattle.window.specs.Windows.{seen}
 use Rattle.profile.specs.declared.Profile.{Profile}
 use Rattle.state.specs.declared.Oep060Timing.{Oep060Timing}
-use Rattle.state.specs.Events.{State, costs, finally, total, countOf}
+use Rattle.state.specs.Events.{State, costs, answers, finally, total, countOf}
 use Rattle.state.specs.CrateCache.{crateCache}
 use Rattle.step.specs.Boards.{boardOf}
 use Rattle.state.specs.Timing.{stateOf, timingOf, timingAt, seenOf}
 use Rattle.refusals.specs.declared.Verdict.the-variants.{Refused}
+use Rattle.refusals.specs.Runs.{Runs, runs}
 use Rattle.little_endian.specs.Numbers.{putAt}
 use Rattle.in_place.specs.WindowNumbers.{windowAt, numbersOf}
 use Rattle.in_place.specs.Lent.{lent, stateAt}
@@ -27,10 +28,11 @@ module _ (ts bs : List ℕ) (w : Window) {ns : List ℕ} (e : ns ≡ numbersOf (
   pub seen-held : stateAt (lent ts bs ns) ≡ seenOf (stateAt (lent ts bs ns))
   seen-held = seen-start ∙ sym (ap (timingAt ts bs) (seen-seen w)) ∙ sym (ap seenOf seen-start)
 
-pub outcome-seen : (P : Profile) (said : Trace) (lent : List ℕ) (t : Oep060Timing) {u : Oep060Timing} → u ≡ seenOf t → traceOutcomeOf P said lent u ≡ traceOutcomeOf P said lent t
+pub outcome-seen : (P : Profile) (said : Trace) (lent : Runs) (t : Oep060Timing) {u : Oep060Timing} → u ≡ seenOf t → traceOutcomeOf P said lent u ≡ traceOutcomeOf P said lent t
 outcome-seen P (events es) lent t e =
     ap (traceOutcomeOf P (events es) lent) e
-    ∙ ap (λ (s : State crateCache). traceOutcome (ranAt (countOf es) (total (costs (boardOf P) s es)) (timingOf (finally (boardOf P) s es))) (putAt lent 0 (costBytes (costs (boardOf P) s es))))
+    ∙ ap (λ (s : State crateCache). traceOutcome (ranAt (countOf es) (total (costs (boardOf P) s es)) (timingOf (finally (boardOf P) s es)))
+    (runs (putAt (lent .costs) 0 (costBytes (costs (boardOf P) s es))) (putAt (lent .answers) 0 (answers (boardOf P) s es))))
     (state-seen (boardOf P) (stateOf t))
 outcome-seen P (refused refusal) lent t e =
     ap (traceOutcomeOf P (refused refusal) lent) e

@@ -6,7 +6,6 @@ use mathlib.Core.List.{List, [], _∷_}
 use native.Mathlib.Nat.{add-zero}
 use native.Mathlib.Omega.{arith}
 use lib.ListN.{length}
-use Rattle.little_endian.specs.Numbers.{bytesOf, putAt}
 use Rattle.profile.specs.declared.Profile.{Profile}
 use Rattle.state.specs.declared.Event.{Event}
 use Rattle.state.specs.declared.Event.the-variants.{Retired, Broken, ClearedAll, ClearedUser}
@@ -15,11 +14,13 @@ use Rattle.state.specs.Timing.{timingAt}
 use Rattle.step.specs.Boards.{steppedOf, afterOf}
 use Rattle.in_place.specs.Lent.{Lent, stateAt, lentOf}
 use Rattle.in_place.proofs.NumbersHeld.{window-held}
+use Rattle.refusals.specs.Runs.{Runs}
 use Rattle.records.specs.declared.record.Read.{Read}
 use Rattle.records.specs.declared.record.Read.the-variants.{Got, Bad, End}
 use Rattle.records.specs.Record.{readAt}
 use Rattle.records.proofs.RecordRows.{Explained, read-explained}
 use Rattle.trace.specs.TraceTurns.{Turned, turned, turnFor, turnOf}
+use Rattle.trace.proofs.TraceRunning.{putNext}
 use Rattle.trace.proofs.Going.{Going, going-bad, going-nearer, going-quiet, going-room, going-cost}
 use Rattle.state.specs.Events.{countOf}
 use Rattle.in_place.specs.Retire.{paidFor}
@@ -28,16 +29,16 @@ use Rattle.class_word.specs.Word.{clocks}
 timing-held : (t : Oep060Timing) → stateAt (lentOf t) ≡ t
 timing-held t = ap (timingAt (t .cache .tags) (t .cache .state)) (window-held (t .window))
 
-module _ {P : Profile} {trace lent₀ : List ℕ} {t₀ : Oep060Timing} {bytes : List ℕ} {at k sum : ℕ} (l : Lent) (g : Going P trace lent₀ t₀ bytes at k sum (stateAt l)) where
+module _ {P : Profile} {trace : List ℕ} {lent₀ : Runs} {t₀ : Oep060Timing} {runs : Runs} {at k sum : ℕ} (l : Lent) (g : Going P trace lent₀ t₀ runs at k sum (stateAt l)) where
   pub record Gone (x : Turned) : Type 0 where
     pub nearer : length trace - x .turn .next < length trace - at
-    pub quiet : x .turn .count ≤ 0 → Going P trace lent₀ t₀ bytes (x .turn .next) k (sum + x .turn .cost .0) (stateAt (x .lent))
-    pub room : 0 < x .turn .count → k * 4 + 4 ≤ length bytes
+    pub quiet : x .turn .count ≤ 0 → Going P trace lent₀ t₀ runs (x .turn .next) k (sum + x .turn .cost .0) (stateAt (x .lent))
+    pub room : 0 < x .turn .count → (k * 4 + 4 ≤ length (runs .costs)) × (k < length (runs .answers))
     pub paid : 0 < x .turn .count
-        → Going P trace lent₀ t₀ (putAt bytes (k * 4) (bytesOf 4 (x .turn .cost .0))) (x .turn .next) (k + 1) (sum + x .turn .cost .0) (stateAt (x .lent))
+        → Going P trace lent₀ t₀ (putNext runs k (x .turn .cost .0) (x .turn .answer)) (x .turn .next) (k + 1) (sum + x .turn .cost .0) (stateAt (x .lent))
 
   gone-quiet : (e : Event) (next : ℕ) → readAt trace at ≡ Got e next → countOf (e ∷ []) ≡ 0
-      → Gone (turned (record { next = next; count = countOf (e ∷ []); cost = clocks 0 }) (lentOf (afterOf P (stateAt l) e)))
+      → Gone (turned (record { next = next; count = countOf (e ∷ []); cost = clocks 0; answer = 0 }) (lentOf (afterOf P (stateAt l) e)))
   gone-quiet e next q z =
       record {
         nearer = going-nearer g e next q;

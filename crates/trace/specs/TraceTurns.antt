@@ -25,10 +25,16 @@ abbrev pub turned : Turn → Lent → Turned
 turned turn l = record { turn = turn; lent = l }
 
 abbrev pub turnFor : Profile → Lent → ℕ → Event → Turned
-turnFor p l next e = turned (record { next = next; count = countOf (e ∷ []); cost = paidFor p l e .cost })
+turnFor p l next e = turned
+    (record {
+      next = next;
+      count = countOf (e ∷ []);
+      cost = paidFor p l e .cost;
+      answer = paidFor p l e .answer;
+    })
     (paidFor p l e .lent)
 
 abbrev pub turnOf : Profile → ℕ → Lent → Read → Turned
 turnOf p at l (Got e next) = turnFor p l next e
-turnOf p at l (Bad refusal) = turned (record { next = at; count = 0; cost = clocks 0 }) l
-turnOf p at l End = turned (record { next = at; count = 0; cost = clocks 0 }) l
+turnOf p at l (Bad refusal) = turned (record { next = at; count = 0; cost = clocks 0; answer = 0 }) l
+turnOf p at l End = turned (record { next = at; count = 0; cost = clocks 0; answer = 0 }) l

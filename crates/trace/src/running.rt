@@ -8,11 +8,13 @@ use in_place::WindowNumbers;
 use profile::Profile;
 use records::Read;
 
-// The turn of one record: the place after it, how many retirements it is, and its clocks.
+// The turn of one record: the place after it, how many retirements it is, its clocks, and what the cache predicted, as
+// a number.
 pub struct Turn {
     pub next: usize,
     pub count: usize,
     pub cost: Clocks,
+    pub answer: u8,
 }
 
 // The record at `at`: its event in place. Where there is none, nothing is done.
@@ -37,17 +39,20 @@ pub fn run_record(
                 next,
                 count: happened.count,
                 cost,
+                answer: happened.answer,
             }
         }
         Read::Bad(_) => Turn {
             next: at,
             count: 0,
             cost: Clocks(0),
+            answer: 0,
         },
         Read::End => Turn {
             next: at,
             count: 0,
             cost: Clocks(0),
+            answer: 0,
         },
     }
 }

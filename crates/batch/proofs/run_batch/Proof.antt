@@ -1,4 +1,4 @@
--- A walk by hand, with a loop: `run_batch` meets its contract. The run of records is looked into once, before the loop, and shut once, after it. In a turn the record is copied out and handed to the step with the state that is carried, and the costs are lent again to `pay`. Of the functions that it calls it knows the contracts alone.
+-- A walk by hand, with a loop: `run_batch` meets its contract. The run of records is looked into once, before the loop, and shut once, after it. In a turn the record is copied out and handed to the step with the state that is carried, and the costs and the answers are lent again to `pay`. Of the functions that it calls it knows the contracts alone.
 -- Assumes nothing.
 use mathlib.Core.Path.{refl}
 use mathlib.Core.List.{[], _∷_}
@@ -13,7 +13,7 @@ use contract.Monad.{Fun}
 use contract.Running.{givenOf, tables, tablesOf}
 use types.Kit.{Given}
 use sound.WpLaws.{WpFn-mono}
-use denote.Builtin.{u32}
+use denote.Builtin.{u8, u32}
 use denote.Slice.{slice-vals, shr-slice-tells, mut-slice-tells}
 use denote.Signature.{plain}
 use denote.Struct.Laws as LL
@@ -60,8 +60,8 @@ mod Begins
 mod Walk
 
 f-walks : {M : Type 1} (𝓤 : URA M) (H : Heap 𝓤) (A : Atoms 𝓤) → Given 𝓤 H A → (mem : Memory → SProp 𝓤) (run : Routine → Fun 𝓤) (𝓣 : Tables 𝓤 H) → Triple 𝓤 (𝓣 .C #judge) (Judge 𝓤 H A mem run) → Triple 𝓤 (𝓣 .C #begin) (Begin 𝓤 H A mem run) → Triple 𝓤 (𝓣 .C #step) (Step 𝓤 H A mem run) → Triple 𝓤 (𝓣 .C #pay) (Pay 𝓤 H A mem run) → Triple 𝓤 (𝓣 .C #finish) (Finish 𝓤 H A mem run) → Walks 𝓤 H A f.ended stayed (WpFn 𝓤 H (𝓣 .C) (𝓣 .Λ) code.function) (f.clauses 𝓤 H A mem run)
-f-walks 𝓤 H A W mem run 𝓣 known-judge known-begin known-step known-pay known-finish = walked 𝓤 H A f.ended stayed (f.clauses 𝓤 H A mem run) (WpFn 𝓤 H (𝓣 .C) (𝓣 .Λ) code.function) (λ κs. (slice-vals, (slice-vals, (svals, tt))))
-    (λ κs. (shr-slice-tells (named 0) (κs .0) R.the-row, (mut-slice-tells (named 1) (κs .1 .0) u32, (LL.tells S.the-type S′.the-laws, tt))))
+f-walks 𝓤 H A W mem run 𝓣 known-judge known-begin known-step known-pay known-finish = walked 𝓤 H A f.ended stayed (f.clauses 𝓤 H A mem run) (WpFn 𝓤 H (𝓣 .C) (𝓣 .Λ) code.function) (λ κs. (slice-vals, (slice-vals, (slice-vals, (svals, tt)))))
+    (λ κs. (shr-slice-tells (named 0) (κs .0) R.the-row, (mut-slice-tells (named 1) (κs .1 .0) u32, (mut-slice-tells (named 2) (κs .1 .1 .0) u8, (LL.tells S.the-type S′.the-laws, tt)))))
     (λ κs qs bounds a g are. via 𝓤 _ (fst∗ 𝓤 _ (emp 𝓤)) (walk (record {
       W = W;
       mem = mem;
@@ -74,8 +74,10 @@ f-walks 𝓤 H A W mem run 𝓣 known-judge known-begin known-step known-pay kno
       known-finish = known-finish;
       κ = κs .0;
       κ′ = κs .1 .0;
+      κ″ = κs .1 .1 .0;
       q = qs .0;
       q′ = qs .1 .0;
+      q″ = qs .1 .1 .0;
       b = a .0 .ptr .0;
       o = a .0 .ptr .1;
       γ = a .0 .name;
@@ -84,14 +86,19 @@ f-walks 𝓤 H A W mem run 𝓣 known-judge known-begin known-step known-pay kno
       o′ = a .1 .0 .ptr .1;
       γ′ = a .1 .0 .name;
       ps = a .1 .0 .now;
-      s = a .1 .1 .0;
+      b″ = a .1 .1 .0 .ptr .0;
+      o″ = a .1 .1 .0 .ptr .1;
+      γ″ = a .1 .1 .0 .name;
+      us = a .1 .1 .0 .now;
+      s = a .1 .1 .1 .0;
       room = are .0 .0 .1;
       room′ = are .1 .0 .0 .1;
-      s-is = are .1 .1 .0;
+      room″ = are .1 .1 .0 .0 .1;
+      s-is = are .1 .1 .1 .0;
     })))
 
-goes : {M : Type 1} (𝓤 : URA M) (H : Heap 𝓤) (A : Atoms 𝓤) (W : Given 𝓤 H A) → AllGo 𝓤 H A W 2 (f.signature .params) (f.ended .kept) stayed
-goes 𝓤 H A W = (goes-none-slice 𝓤 H A W 2 (0 ∷ []) tt (plain (λ _. R.the-row)) yes, (goes-slice 𝓤 H A W 2 1 tt (plain (λ _. u32)), (goes-none 𝓤 H A W 2 (λ _. S.the-row) yes (λ κs x f. refl), tt)))
+goes : {M : Type 1} (𝓤 : URA M) (H : Heap 𝓤) (A : Atoms 𝓤) (W : Given 𝓤 H A) → AllGo 𝓤 H A W 3 (f.signature .params) (f.ended .kept) stayed
+goes 𝓤 H A W = (goes-none-slice 𝓤 H A W 3 (0 ∷ []) tt (plain (λ _. R.the-row)) yes, (goes-slice 𝓤 H A W 3 1 tt (plain (λ _. u32)), (goes-slice 𝓤 H A W 3 2 tt (plain (λ _. u8)), (goes-none 𝓤 H A W 3 (λ _. S.the-row) yes (λ κs x f. refl), tt))))
 
 f-meets : {M : Type 1} (𝓤 : URA M) (H : Heap 𝓤) (A : Atoms 𝓤) → Given 𝓤 H A → (mem : Memory → SProp 𝓤) (run : Routine → Fun 𝓤) (𝓣 : Tables 𝓤 H) → Triple 𝓤 (𝓣 .C #judge) (Judge 𝓤 H A mem run) → Triple 𝓤 (𝓣 .C #begin) (Begin 𝓤 H A mem run) → Triple 𝓤 (𝓣 .C #step) (Step 𝓤 H A mem run) → Triple 𝓤 (𝓣 .C #pay) (Pay 𝓤 H A mem run) → Triple 𝓤 (𝓣 .C #finish) (Finish 𝓤 H A mem run)
     → Meets 𝓤 H A f.signature (WpFn 𝓤 H (𝓣 .C) (𝓣 .Λ) code.function) (f.spec 𝓤 H A mem run)

@@ -1,4 +1,4 @@
--- `lend`: the part is within the buffer.
+-- `lend`: each part is within its buffer.
 -- Assumes nothing.
 use mathlib.Core.Path.{sym}
 use lib.Seq.{length-take-le}
@@ -9,8 +9,14 @@ use Rattle.cases.proofs.lend.Tie as tie
 large-buffer-requires : tie.Need-large-buffer-requires
 large-buffer-requires c κs = search needs
 
+large-buffer-requires-2 : tie.Need-large-buffer-requires-2
+large-buffer-requires-2 c κs = search needs
+
 slice-aggregate-lent : tie.Need-slice-aggregate-lent
 slice-aggregate-lent c = search needs
+
+slice-aggregate-answers : tie.Need-slice-aggregate-answers
+slice-aggregate-answers c = search needs
 
 slice-relend-prefix-answer : tie.Need-slice-relend-prefix-answer
 slice-relend-prefix-answer c = search needs
@@ -18,39 +24,37 @@ slice-relend-prefix-answer c = search needs
 slice-aggregate-answer : tie.Need-slice-aggregate-answer
 slice-aggregate-answer c = sym (length-take-le _ _ (search needs))
 
+slice-relend-prefix-answer-2 : tie.Need-slice-relend-prefix-answer-2
+slice-relend-prefix-answer-2 c = search needs
+
+slice-aggregate-answer-2 : tie.Need-slice-aggregate-answer-2
+slice-aggregate-answer-2 c = sym (length-take-le _ _ (search needs))
+
 answer-requires : tie.Need-answer-requires
 answer-requires c κs = search needs
 
-add-zeros : tie.Need-add-zeros
-add-zeros c = search needs
+print-spilled-requires : tie.Need-print-spilled-requires
+print-spilled-requires c κs = search needs
 
-zeros-requires : tie.Need-zeros-requires
-zeros-requires c κs = search needs
-
-slice-aggregate-write-all : tie.Need-slice-aggregate-write-all
-slice-aggregate-write-all c = search needs
-
-write-all-requires : tie.Need-write-all-requires
-write-all-requires c κs = search needs
+print-spilled-requires-2 : tie.Need-print-spilled-requires-2
+print-spilled-requires-2 c κs = search needs
 
 returns : tie.Need-returns
 returns c = search needs
-
-returns-2 : tie.Need-returns-2
-returns-2 c = search needs
 
 pub lend-spec : {M : Type 1} → statement M
 lend-spec =
     tie.close
     (tie.spec
     large-buffer-requires
+    large-buffer-requires-2
     slice-aggregate-lent
+    slice-aggregate-answers
     slice-relend-prefix-answer
     slice-aggregate-answer
+    slice-relend-prefix-answer-2
+    slice-aggregate-answer-2
     answer-requires
-    add-zeros
-    zeros-requires
-    slice-aggregate-write-all
-    write-all-requires
-    returns
-    returns-2)
+    print-spilled-requires
+    print-spilled-requires-2
+    returns)

@@ -1,6 +1,5 @@
 -- `run_batch`: the places are within their array.
 -- Assumes nothing.
-use lib.ListN.{length}
 use mathlib.Core.Path.{sym}
 use lib.Seq.{length-take-le}
 use borrow.Author.Needs.{needs}
@@ -25,6 +24,9 @@ put-words-requires c κs = search needs
 same-length : tie.Need-same-length
 same-length c = search needs
 
+same-length-2 : tie.Need-same-length-2
+same-length-2 c = search needs
+
 returns : tie.Need-returns
 returns c = search needs
 
@@ -38,4 +40,5 @@ run-batch-spec =
     run-records-requires
     put-words-requires
     same-length
+    same-length-2
     returns)

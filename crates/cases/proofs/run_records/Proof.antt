@@ -1,6 +1,5 @@
 -- `run_records`: the words are within their array.
 -- Assumes nothing.
-use lib.ListN.{length}
 use mathlib.Core.Path.{sym}
 use lib.Seq.{length-take-le}
 use borrow.Author.Needs.{needs}
@@ -15,6 +14,9 @@ settle-requires c κs = search needs
 
 same-length : tie.Need-same-length
 same-length c = search needs
+
+same-length-2 : tie.Need-same-length-2
+same-length-2 c = search needs
 
 returns : tie.Need-returns
 returns c = search needs
@@ -31,8 +33,11 @@ slice-aggregate-run-words c = sym (length-take-le _ _ (search needs))
 run-words-requires : tie.Need-run-words-requires
 run-words-requires c κs = search needs
 
-same-length-2 : tie.Need-same-length-2
-same-length-2 c = search needs
+same-length-3 : tie.Need-same-length-3
+same-length-3 c = search needs
+
+same-length-4 : tie.Need-same-length-4
+same-length-4 c = search needs
 
 returns-2 : tie.Need-returns-2
 returns-2 c = search needs
@@ -44,10 +49,12 @@ run-records-spec =
     run-slice-requires
     settle-requires
     same-length
+    same-length-2
     returns
     words-of-requires
     array-share-prefix-all
     slice-aggregate-run-words
     run-words-requires
-    same-length-2
+    same-length-3
+    same-length-4
     returns-2)

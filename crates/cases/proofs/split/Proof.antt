@@ -16,6 +16,12 @@ u16-at-requires c κs = search needs
 room-of-requires : tie.Need-room-of-requires
 room-of-requires c κs = search needs
 
+u16-at-requires-2 : tie.Need-u16-at-requires-2
+u16-at-requires-2 c κs = search needs
+
+answers-room-requires : tie.Need-answers-room-requires
+answers-room-requires c κs = search needs
+
 slice-aggregate-start : tie.Need-slice-aggregate-start
 slice-aggregate-start c = sym (length-take-le _ _ (search needs))
 
@@ -53,6 +59,8 @@ split-spec =
     shared-slice-read-what
     u16-at-requires
     room-of-requires
+    u16-at-requires-2
+    answers-room-requires
     slice-aggregate-start
     shared-slice-read-start
     start-requires

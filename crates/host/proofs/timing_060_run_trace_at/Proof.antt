@@ -3,6 +3,7 @@
 use mathlib.Core.Path.{ap, ap₂, _∙_}
 use Rattle.profile.specs.declared.Profile.{Profile}
 use Rattle.state.specs.declared.Oep060Timing.{Oep060Timing}
+use Rattle.refusals.specs.Runs.{runs}
 use Rattle.trace.specs.Run.{runTraceOf}
 use Rattle.in_place.specs.Lent.{lent}
 use Rattle.host.specs.HostRuns.{hostOutcomeOfTrace}
@@ -12,13 +13,13 @@ use Rattle.host.proofs.timing_060_run_trace_at.Tie as tie
 
 returns : tie.Need-returns
 returns c =
-    let k = c .before .before .before .before .before .before .before .before in
-    let p = k .before .before in
+    let k = c .before .before .before .before .before .before .before .before .before .before in
+    let p = k .before .before .before in
     let g = p .before in
-    let a = g .before .before .before .before .before .before .args in
+    let a = g .before .before .before .before .before .before .before .args in
     rw (c .host-ran .ensures, c .before .put-accepted .ensures)
     (ap (hostOutcomeOfTrace (lent (a .tags .now) (a .state .now) (a .window .now)))
-    (k .run-trace .ensures ∙ ap₂ (λ (x : Profile) (t : Oep060Timing). runTraceOf x (a .trace .now) (a .costs .now) t) (p .profile-at .ensures) (g .timing-at .ensures)))
+    (k .run-trace .ensures ∙ ap₂ (λ (x : Profile) (t : Oep060Timing). runTraceOf x (a .trace .now) (runs (a .costs .now) (a .answers .now)) t) (p .profile-at .ensures) (g .timing-at .ensures)))
 
 pub timing-060-run-trace-at-spec : {M : Type 1} → statement M
 timing-060-run-trace-at-spec =
@@ -29,5 +30,6 @@ timing-060-run-trace-at-spec =
     (λ c κs. search needs)
     (λ c κs. search needs)
     (λ c κs. search needs)
+    (λ c. search needs)
     (λ c. search needs)
     returns)

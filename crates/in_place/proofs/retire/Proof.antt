@@ -2,13 +2,13 @@
 -- Assumes nothing.
 use mathlib.Core.Path.{sym, ap, ap₂, _∙_}
 use borrow.Author.Needs.{needs}
-use Rattle.class_word.specs.Word.{has, clocks, DBCC}
+use Rattle.class_word.specs.Word.{has, DBCC}
 use Rattle.window.specs.declared.dispatch.Instruction.{Instruction}
 use Rattle.window.specs.declared.dispatch.Controls.{Controls}
 use Rattle.window.specs.declared.Window.{Window}
 use Rattle.cost.specs.declared.branch.Answer.the-variants.{NotConsulted}
 use Rattle.cost.specs.Retiring.{otherPoint}
-use Rattle.cost.specs.Branch.{takenOf, branchCost}
+use Rattle.cost.specs.Branch.{takenOf, branchOf}
 use Rattle.cost.specs.Cost.{chargedBy}
 use Rattle.state.specs.declared.Retirement.{Retirement}
 use Rattle.state.specs.Timing.{steppedBy}
@@ -39,9 +39,13 @@ shut-window-requires c κs = search needs
 charge-branch-requires : tie.Need-charge-branch-requires
 charge-branch-requires c κs = search needs
 
+told-requires : tie.Need-told-requires
+told-requires c κs = search needs
+
 returns : tie.Need-returns
 returns c =
-    let s = c .before .before .before .before .before in
+    let b = c .before .before in
+    let s = b .before .before .before .before .before in
     let h = s .before .before .before .before in
     let i = h .before .instruction-060 .result in
     let k = h .before .before .controls-of .result in
@@ -49,8 +53,8 @@ returns c =
     let r : Retirement = record { op = a .op; controls = k } in
     let l = lent (a .tags .now) (a .state .now) (a .window .now) in
     paid-branch l i r (sym (h .has .ensures) ∙ s .before .before .before .if1 .taken) (s .ask-in-place .ensures)
-    (c .charge-branch .ensures ∙ ap (λ (w : Window). clocks (branchCost (has (i .word .0) DBCC) (takenOf i k) (w .opened) (s .ask-in-place .result))) (c .before .before .before .window-at .ensures))
-    (c .before .shut-window .ensures)
+    (b .charge-branch .ensures ∙ ap (λ (w : Window). branchOf (has (i .word .0) DBCC) (takenOf i k) (w .opened) (s .ask-in-place .result)) (b .before .before .before .window-at .ensures))
+    (b .before .shut-window .ensures) (c .told .ensures)
     ∙ ap₂ (λ (x : Instruction) (y : Controls). paidOf (steppedBy (stateAt l) x (record { op = a .op; controls = y }))) (h .before .instruction-060 .ensures) (h .before .before .controls-of .ensures)
 
 window-at-requires-2 : tie.Need-window-at-requires-2
@@ -58,6 +62,9 @@ window-at-requires-2 c κs = search needs
 
 charge-other-requires : tie.Need-charge-other-requires
 charge-other-requires c κs = search needs
+
+told-requires-2 : tie.Need-told-requires-2
+told-requires-2 c κs = search needs
 
 put-head-requires : tie.Need-put-head-requires
 put-head-requires c κs = search needs
@@ -67,7 +74,7 @@ shut-window-requires-2 c κs = search needs
 
 returns-2 : tie.Need-returns-2
 returns-2 c =
-    let o = c .before .before .before .before in
+    let o = c .before .before .before .before .before in
     let h = o .before .before .before .before in
     let i = h .before .instruction-060 .result in
     let k = h .before .before .controls-of .result in
@@ -75,12 +82,12 @@ returns-2 c =
     let r : Retirement = record { op = a .op; controls = k } in
     let l = lent (a .tags .now) (a .state .now) (a .window .now) in
     paid-open l i r (sym (h .has .ensures) ∙ o .before .before .before .if1 .left)
-    (o .charge-other .ensures ∙ ap (λ (w : Window). chargedBy (otherPoint k) i k w NotConsulted) (o .before .window-at2 .ensures)) (c .before .before .if2 .taken) (c .put-head .ensures)
+    (o .charge-other .ensures ∙ ap (λ (w : Window). chargedBy (otherPoint k) i k w NotConsulted) (o .before .window-at2 .ensures)) (c .before .before .if2 .taken) (c .put-head .ensures) (c .before .before .before .told2 .ensures)
     ∙ ap₂ (λ (x : Instruction) (y : Controls). paidOf (steppedBy (stateAt l) x (record { op = a .op; controls = y }))) (h .before .instruction-060 .ensures) (h .before .before .controls-of .ensures)
 
 returns-3 : tie.Need-returns-3
 returns-3 c =
-    let o = c .before .before .before .before in
+    let o = c .before .before .before .before .before in
     let h = o .before .before .before .before in
     let i = h .before .instruction-060 .result in
     let k = h .before .before .controls-of .result in
@@ -88,7 +95,7 @@ returns-3 c =
     let r : Retirement = record { op = a .op; controls = k } in
     let l = lent (a .tags .now) (a .state .now) (a .window .now) in
     paid-shut l i r (sym (h .has .ensures) ∙ o .before .before .before .if1 .left)
-    (o .charge-other .ensures ∙ ap (λ (w : Window). chargedBy (otherPoint k) i k w NotConsulted) (o .before .window-at2 .ensures)) (c .before .before .if2 .left) (c .shut-window2 .ensures)
+    (o .charge-other .ensures ∙ ap (λ (w : Window). chargedBy (otherPoint k) i k w NotConsulted) (o .before .window-at2 .ensures)) (c .before .before .if2 .left) (c .shut-window2 .ensures) (c .before .before .before .told2 .ensures)
     ∙ ap₂ (λ (x : Instruction) (y : Controls). paidOf (steppedBy (stateAt l) x (record { op = a .op; controls = y }))) (h .before .instruction-060 .ensures) (h .before .before .controls-of .ensures)
 
 pub retire-spec : {M : Type 1} → statement M
@@ -102,9 +109,11 @@ retire-spec =
     window-at-requires
     shut-window-requires
     charge-branch-requires
+    told-requires
     returns
     window-at-requires-2
     charge-other-requires
+    told-requires-2
     put-head-requires
     shut-window-requires-2
     returns-2

@@ -1,4 +1,4 @@
--- `run_short`: the size, then the run; within the limit it has room for all costs.
+-- `run_short`: the size, then the run; within the limit it has room for all costs and answers.
 -- Assumes nothing.
 use mathlib.Core.Path.{_∙_}
 use borrow.Author.Needs.{needs}
@@ -18,9 +18,15 @@ run-trace-requires c κs = search needs
 same-length : tie.Need-same-length
 same-length c = search needs
 
+same-length-2 : tie.Need-same-length-2
+same-length-2 c = search needs
+
 returns-2 : tie.Need-returns-2
-returns-2 c = c .before .before .run-trace .ensures ∙ run-small _ (c .before .before .before .before .if1 .left) _ _ _ (c .before .before .before .before .before .before .before .pre)
+returns-2 c =
+    let r = c .before .before .before .before in
+    let b = r .before .before .before in
+    r .run-trace .ensures ∙ run-small _ (b .if1 .left) _ _ _ (b .before .before .before .before .pre)
 
 pub run-short-spec : {M : Type 1} → statement M
 run-short-spec =
-    tie.close (tie.spec refused-requires returns run-trace-requires same-length returns-2)
+    tie.close (tie.spec refused-requires returns run-trace-requires same-length same-length-2 returns-2)

@@ -2,7 +2,7 @@
 -- Assumes nothing.
 use mathlib.Core.Path.{sym, _∙_}
 use borrow.Author.Needs.{needs}
-use Rattle.records.proofs.Judging.{too-long, not-sound, no-room, all-sound}
+use Rattle.records.proofs.Judging.{too-long, not-sound, no-room, no-answers, all-sound}
 use Rattle.records.proofs.judge_trace.Statement.{statement}
 use Rattle.records.proofs.judge_trace.Tie as tie
 
@@ -26,15 +26,21 @@ returns-2 c =
 
 returns-3 : tie.Need-returns-3
 returns-3 c =
+    let k = c .before .before .before in
+    let a = k .before .before in
+    no-answers _ _ (a .before .if1 .left) (sym (a .check-all .ensures) ∙ k .checked2 .given .1) (c .before .if2 .left) (c .if3 .taken)
+
+returns-4 : tie.Need-returns-4
+returns-4 c =
     let k = c .before in
     let a = k .before .before in
     not-sound _ _ (a .before .if1 .left) (sym (a .check-all .ensures) ∙ k .checked .given .1)
 
-returns-4 : tie.Need-returns-4
-returns-4 c =
-    let k = c .before .before in
+returns-5 : tie.Need-returns-5
+returns-5 c =
+    let k = c .before .before .before in
     let a = k .before .before in
-    all-sound _ _ (a .before .if1 .left) (sym (a .check-all .ensures) ∙ k .checked2 .given .1) (c .if2 .left)
+    all-sound _ _ (a .before .if1 .left) (sym (a .check-all .ensures) ∙ k .checked2 .given .1) (c .before .if2 .left) (c .if3 .left)
 
 pub judge-trace-spec : {M : Type 1} → statement M
 judge-trace-spec =
@@ -46,4 +52,5 @@ judge-trace-spec =
     enum-known-checked-2
     returns-2
     returns-3
-    returns-4)
+    returns-4
+    returns-5)

@@ -2,8 +2,7 @@
 -- Assumes nothing.
 use mathlib.Core.Path.{_≡_, sym, ap, ap₂, _∙_}
 use mathlib.Core.Bool.{Bool, true, false, not}
-use Rattle.class_word.specs.declared.Clocks.{Clocks}
-use Rattle.class_word.specs.Word.{has, clocks, BRANCH, DBCC}
+use Rattle.class_word.specs.Word.{has, BRANCH, DBCC}
 use Rattle.branch_cache.specs.declared.BranchCache060.{BranchCache060}
 use Rattle.branch_cache.specs.Cache.{cacheUpdateOf}
 use Rattle.window.specs.declared.dispatch.Instruction.{Instruction}
@@ -11,13 +10,13 @@ use Rattle.window.specs.declared.dispatch.Controls.{Controls}
 use Rattle.window.specs.declared.Window.{Window}
 use Rattle.window.specs.Windows.{shut}
 use Rattle.cost.specs.declared.branch.Answer.{Answer}
-use Rattle.cost.specs.Branch.{takenOf, branchCost}
+use Rattle.cost.specs.declared.branch.BranchCost.{BranchCost}
+use Rattle.cost.specs.Branch.{takenOf, branchOf}
 use Rattle.state.specs.declared.Retirement.{Retirement}
 use Rattle.state.specs.declared.Oep060Timing.{Oep060Timing}
-use Rattle.state.specs.declared.Stepped.{Stepped}
 use Rattle.state.specs.Events.{consults, answerOf, cacheAfter}
 use Rattle.state.specs.CrateCache.{crateCache}
-use Rattle.state.specs.Timing.{asked, askedOf, steppedBy}
+use Rattle.state.specs.Timing.{asked, steppedBy}
 use Rattle.state.proofs.Stepping.{left, stepped-branch}
 use borrow.Author.Needs.{needs}
 use Rattle.step.proofs.branch_060.Statement.{statement}
@@ -36,10 +35,10 @@ module _ (c : BranchCache060) (i : Instruction) (k : Controls) where
 retired : (t : Oep060Timing) (i : Instruction) (r : Retirement) → has (i .word .0) BRANCH ≡ true
     → {a : Answer} → a ≡ answerOf crateCache (t .cache) i (r .controls) → {c : BranchCache060} → c ≡ cacheAfter crateCache (t .cache) i (r .controls)
     → {w : Window} → w ≡ shut → {taken : Bool} → taken ≡ takenOf i (r .controls) → {d : Bool} → d ≡ has (i .word .0) DBCC
-    → {n : Clocks} → n ≡ clocks (branchCost d taken (t .window .opened) a) → left c w n ≡ steppedBy t i r
+    → {n : BranchCost} → n ≡ branchOf d taken (t .window .opened) a → left c w (n .cost) (n .answer) ≡ steppedBy t i r
 retired t i r b {a} e {c} h {w} q {taken} s {d} f {n} p =
-    ap (λ (v : Window). left c v n) q
-    ∙ stepped-branch t i r b (ap₂ asked e h) (p ∙ ap₂ (λ (x y : Bool). clocks (branchCost x y (t .window .opened) a)) f s)
+    ap (λ (v : Window). left c v (n .cost) (n .answer)) q
+    ∙ stepped-branch t i r b (ap₂ asked e h) (p ∙ ap₂ (λ (x y : Bool). branchOf x y (t .window .opened) a) f s)
 
 taken-requires : tie.Need-taken-requires
 taken-requires c κs = search needs
@@ -65,7 +64,7 @@ update-requires c κs = search needs
 returns : tie.Need-returns
 returns c =
     let k = c .before .before .before in
-    let b = k .before in
+    let b = k .before .before in
     let n = b .before .before in
     let a = n .before .before .before .before .args in
     let e = sym (k .consulted .ensures) ∙ c .before .before .if1 .taken in
@@ -75,7 +74,7 @@ returns c =
 returns-2 : tie.Need-returns-2
 returns-2 c =
     let k = c .before in
-    let b = k .before in
+    let b = k .before .before in
     let n = b .before .before in
     let a = n .before .before .before .before .args in
     let e = sym (k .consulted .ensures) ∙ c .if1 .left in

@@ -2,6 +2,7 @@
 -- Assumes nothing.
 use mathlib.Core.Path.{ap, _∙_}
 use Rattle.window.specs.declared.Window.{Window}
+use Rattle.cost.specs.declared.branch.Answer.the-variants.{NotConsulted}
 use Rattle.state.proofs.Stepping.{left, stepped-open, stepped-shut}
 use borrow.Author.Needs.{needs}
 use Rattle.step.proofs.other_060.Statement.{statement}
@@ -20,14 +21,14 @@ returns : tie.Need-returns
 returns c =
     let o = c .before .before .before in
     let a = o .before .before .args in
-    ap (λ (w : Window). left (a .timing .cache) w (o .charge-other .result .cost)) (c .as-head .ensures)
+    ap (λ (w : Window). left (a .timing .cache) w (o .charge-other .result .cost) NotConsulted) (c .as-head .ensures)
     ∙ stepped-open (a .timing) (a .i) (a .r) (o .before .before .pre) (o .charge-other .ensures) (c .before .if1 .taken)
 
 returns-2 : tie.Need-returns-2
 returns-2 c =
     let o = c .before .before .before in
     let a = o .before .before .args in
-    ap (λ (w : Window). left (a .timing .cache) w (o .charge-other .result .cost)) (c .shut .ensures)
+    ap (λ (w : Window). left (a .timing .cache) w (o .charge-other .result .cost) NotConsulted) (c .shut .ensures)
     ∙ stepped-shut (a .timing) (a .i) (a .r) (o .before .before .pre) (o .charge-other .ensures) (c .before .if1 .left)
 
 pub other-060-spec : {M : Type 1} → statement M

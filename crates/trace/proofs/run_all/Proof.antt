@@ -6,6 +6,7 @@ use Rattle.window.specs.declared.Window.{Window}
 use Rattle.state.specs.Timing.{timingAt}
 use Rattle.in_place.specs.WindowNumbers.{windowAt}
 use Rattle.in_place.proofs.NumbersHeld.{window-held}
+use Rattle.refusals.specs.Runs.{runs}
 use Rattle.records.specs.Trace.{readTrace}
 use Rattle.trace.specs.Run.{traceOutcomeOf}
 use Rattle.trace.proofs.run_all.Statement.{statement}
@@ -23,19 +24,22 @@ timing-at-requires c κs = search needs
 same-length : tie.Need-same-length
 same-length c = search needs
 
+same-length-2 : tie.Need-same-length-2
+same-length-2 c = search needs
+
 returns : tie.Need-returns
 returns c =
-    let k = c .before .before .before in
-    let p = k .before .before .before .before .before in
-    let a = p .before .before .before .before .before .before .args in
+    let k = c .before .before .before .before .before in
+    let p = k .before .before .before .before .before .before in
+    let a = p .before .before .before .before .before .before .before .args in
     let t = a .timing in
     let e =
     k .run-records .ensures
-    ∙ ap (λ (w : Window). traceOutcomeOf (a .profile) (readTrace (a .trace .now)) (a .costs .now) (timingAt (t .cache .tags) (t .cache .state) w))
+    ∙ ap (λ (w : Window). traceOutcomeOf (a .profile) (readTrace (a .trace .now)) (runs (a .costs .now) (a .answers .now)) (timingAt (t .cache .tags) (t .cache .state) w))
     (ap windowAt (p .put-window .ensures) ∙ window-held (t .window)) in
     rw (← c .timing-at .ensures) at e
 
 pub run-all-spec : {M : Type 1} → statement M
 run-all-spec =
     tie.close
-    (tie.spec put-window-requires run-records-requires timing-at-requires same-length returns)
+    (tie.spec put-window-requires run-records-requires timing-at-requires same-length same-length-2 returns)

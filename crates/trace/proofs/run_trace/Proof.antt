@@ -21,9 +21,9 @@ enum-told c = search needs
 
 run-all-requires : tie.Need-run-all-requires
 run-all-requires c κs =
-    let k = c .before in
+    let k = c .before .before in
     let t = taken-so _ _ (sym (k .before .before .judge-trace .ensures) ∙ k .enum-told .given .1) in
-    (t .size, t .fits)
+    (t .size, (t .fits, t .tells))
 
 returns : tie.Need-returns
 returns c =
@@ -33,10 +33,14 @@ returns c =
 same-length : tie.Need-same-length
 same-length c = search needs
 
+same-length-2 : tie.Need-same-length-2
+same-length-2 c = search needs
+
 returns-2 : tie.Need-returns-2
 returns-2 c =
-    let k = c .before .before .before .before in
-    taken _ _ _ _ (sym (k .before .before .judge-trace .ensures) ∙ k .enum-told .given .1) (c .before .before .run-all .ensures)
+    let r = c .before .before .before .before in
+    let k = r .before .before .before in
+    taken _ _ _ _ (sym (k .before .before .judge-trace .ensures) ∙ k .enum-told .given .1) (r .run-all .ensures)
 
 pub run-trace-spec : {M : Type 1} → statement M
 run-trace-spec =
@@ -49,4 +53,5 @@ run-trace-spec =
     run-all-requires
     returns
     same-length
+    same-length-2
     returns-2)

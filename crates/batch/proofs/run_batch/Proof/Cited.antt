@@ -17,6 +17,7 @@ use Rattle.state.specs.declared.Retirement.{Retirement}
 use Rattle.state.specs.declared.Stepped.{Stepped}
 use Rattle.step.specs.Boards.{steppedOf}
 use Rattle.refusals.specs.declared.outcome.Ran.{Ran}
+use Rattle.refusals.specs.Runs.{rooms}
 use Rattle.batch.specs.declared.Carried.{Carried}
 use Rattle.batch.specs.declared.Judged.{Judged}
 use Rattle.batch.specs.Turning.{judgedBatchOf, beginOf, finishOf}
@@ -43,8 +44,8 @@ module _ {M : Type 1} (𝓤 : URA M) (H : Heap 𝓤) (A : Atoms 𝓤) (mem : Mem
   abbrev pub Finish : Contract 𝓤
   Finish = tripleOf 𝓤 H A finish.signature (finish.spec 𝓤 H A mem run)
 
-  pub judge-of : (n k : ℕ) (r : Judged) → ent 𝓤 (ensured 𝓤 H A judge.ended (judge.clauses 𝓤 H A mem run) tt (n, (k, tt)) tt r) (fact 𝓤 (r ≡ judgedBatchOf n k))
-  judge-of n k r = exE 𝓤 _ (λ ws. snd∗ 𝓤 (sem 𝓤 H A (lasts judge.ended tt (n, (k, tt)) ws)) (fact 𝓤 (r ≡ judgedBatchOf n k)))
+  pub judge-of : (n k j : ℕ) (r : Judged) → ent 𝓤 (ensured 𝓤 H A judge.ended (judge.clauses 𝓤 H A mem run) tt (n, (k, (j, tt))) tt r) (fact 𝓤 (r ≡ judgedBatchOf n (rooms k j)))
+  judge-of n k j r = exE 𝓤 _ (λ ws. snd∗ 𝓤 (sem 𝓤 H A (lasts judge.ended tt (n, (k, (j, tt))) ws)) (fact 𝓤 (r ≡ judgedBatchOf n (rooms k j))))
 
   pub begin-of : (s : Chosen) (r : Carried) → ent 𝓤 (ensured 𝓤 H A begin.ended (begin.clauses 𝓤 H A mem run) tt (s, tt) tt r) (fact 𝓤 (r ≡ beginOf s))
   begin-of s r = exE 𝓤 _ (λ ws. snd∗ 𝓤 (sem 𝓤 H A (lasts begin.ended tt (s, tt) ws)) (fact 𝓤 (r ≡ beginOf s)))

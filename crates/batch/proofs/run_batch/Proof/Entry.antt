@@ -15,7 +15,7 @@ use ghost.Atoms.{Atoms}
 use contract.Monad.{Fun}
 use types.Kit.{Given}
 use denote.Laws.{Is}
-use denote.Builtin.{u32}
+use denote.Builtin.{u8, u32}
 use denote.Ref.{RefT}
 use denote.Slice.{sliceVal, ShrSlice, MutSlice, Room}
 use denote.Signature.{plain}
@@ -26,6 +26,7 @@ use denote.Exit.{yes}
 use Rattle.step.specs.declared.Chosen.{Chosen}
 use Rattle.state.specs.declared.Retirement.{Retirement}
 use Rattle.refusals.specs.declared.outcome.Ran.{Ran}
+use Rattle.refusals.specs.Runs.{Runs, runs, roomsOf}
 use Rattle.batch.specs.declared.Judged.{Judged}
 use Rattle.batch.specs.Turning.{judgedBatchOf, seenChosen, finishOf}
 use Rattle.step.proofs.Chosen as S
@@ -42,9 +43,9 @@ use Rattle.batch.proofs.run_batch.Proof.Values.{svals}
 use Rattle.batch.proofs.run_batch.Proof.Cited.{Judge, Begin, Step, Pay, Finish}
 
 abbrev pub stayed : Stays (f.ended .signature .params) (f.ended .kept)
-stayed = (stay-none-slice (0 ∷ []) tt (plain (λ _. R.the-row)) yes, (stay-slice (1 ∷ []) tt (plain (λ _. u32)), (stay-none (λ _. S.the-row) yes, tt)))
+stayed = (stay-none-slice (0 ∷ []) tt (plain (λ _. R.the-row)) yes, (stay-slice (1 ∷ []) tt (plain (λ _. u32)), (stay-slice (2 ∷ []) tt (plain (λ _. u8)), (stay-none (λ _. S.the-row) yes, tt))))
 
--- what the walk is over: the logic's rules, the callees, the lifetimes and their shares, the records rs lent at b and o, the places ps lent at b′ and o′, the state s, and what is known of them at entry
+-- what the walk is over: the logic's rules, the callees, the lifetimes and their shares, the records rs lent at b and o, the places ps lent at b′ and o′, the bytes us lent at b″ and o″, the state s, and what is known of them at entry
 pub record Setting {M : Type 1} (𝓤 : URA M) (H : Heap 𝓤) (A : Atoms 𝓤) : Type 2 where
   pub W : Given 𝓤 H A
   pub mem : Memory → SProp 𝓤
@@ -57,8 +58,10 @@ pub record Setting {M : Type 1} (𝓤 : URA M) (H : Heap 𝓤) (A : Atoms 𝓤) 
   pub known-finish : Triple 𝓤 (𝓣 .C #finish) (Finish 𝓤 H A mem run)
   pub κ : Lft
   pub κ′ : Lft
+  pub κ″ : Lft
   pub q : Share
   pub q′ : Share
+  pub q″ : Share
   pub b : ℕ
   pub o : ℕ
   pub γ : GName
@@ -67,23 +70,31 @@ pub record Setting {M : Type 1} (𝓤 : URA M) (H : Heap 𝓤) (A : Atoms 𝓤) 
   pub o′ : ℕ
   pub γ′ : GName
   pub ps : List ℕ
+  pub b″ : ℕ
+  pub o″ : ℕ
+  pub γ″ : GName
+  pub us : List ℕ
   pub s : Chosen
   pub room : Room R.the-row (length rs)
   pub room′ : Room u32 (length ps)
+  pub room″ : Room u8 (length us)
   pub s-is : Is S.the-row s (svals s)
 
 module _ {M : Type 1} {𝓤 : URA M} {H : Heap 𝓤} {A : Atoms 𝓤} (Z : Setting 𝓤 H A) where
-  open Setting Z using (mem, run, κ, κ′, q, q′, b, o, γ, rs, b′, o′, γ′, ps, s)
+  open Setting Z using (mem, run, κ, κ′, κ″, q, q′, q″, b, o, γ, rs, b′, o′, γ′, ps, b″, o″, γ″, us, s)
 
   abbrev pub rs-ref : RefT (List Retirement)
   rs-ref = record { ptr = (b, o); name = γ; now = rs }
 
-  -- the costs' borrow, under the name δ at the list l
+  -- the costs' borrow, under the name δ at the list l, and the answers'
   abbrev pub costs-ref : GName → List ℕ → RefT (List ℕ)
   costs-ref δ l = record { ptr = (b′, o′); name = δ; now = l }
 
-  abbrev pub args : RefT (List Retirement) × (RefT (List ℕ) × (Chosen × Unit {0}))
-  args = (rs-ref, (costs-ref γ′ ps, (s, tt)))
+  abbrev pub answers-ref : GName → List ℕ → RefT (List ℕ)
+  answers-ref δ l = record { ptr = (b″, o″); name = δ; now = l }
+
+  abbrev pub args : RefT (List Retirement) × (RefT (List ℕ) × (RefT (List ℕ) × (Chosen × Unit {0})))
+  args = (rs-ref, (costs-ref γ′ ps, (answers-ref γ″ us, (s, tt))))
 
   abbrev pub rs-val : Val
   rs-val = sliceVal (b, o) (length rs)
@@ -91,15 +102,21 @@ module _ {M : Type 1} {𝓤 : URA M} {H : Heap 𝓤} {A : Atoms 𝓤} (Z : Setti
   abbrev pub costs-val : ℕ → Val
   costs-val k = sliceVal (b′, o′) k
 
-  abbrev pub args-vals : Vals f.signature (κ, (κ′, tt))
-  args-vals = (rs-val ∷ [], (costs-val (length ps) ∷ [], (svals s, tt)))
+  abbrev pub answers-val : ℕ → Val
+  answers-val k = sliceVal (b″, o″) k
+
+  abbrev pub args-vals : Vals f.signature (κ, (κ′, (κ″, tt)))
+  args-vals = (rs-val ∷ [], (costs-val (length ps) ∷ [], (answers-val (length us) ∷ [], (svals s, tt))))
 
   abbrev pub Post : Val → SProp 𝓤
-  Post = walkOf 𝓤 H A f.ended stayed (f.clauses 𝓤 H A mem run) .post (((κ, (κ′, tt)), (q, (q′, tt)), tt, args, args-vals), tt)
+  Post = walkOf 𝓤 H A f.ended stayed (f.clauses 𝓤 H A mem run) .post (((κ, (κ′, (κ″, tt))), (q, (q′, (q″, tt))), tt, args, args-vals), tt)
 
-  -- the verdict, and how many records are run
+  -- the two runs as they came, the verdict, and how many records are run
+  abbrev pub lent : Runs
+  lent = runs ps us
+
   abbrev pub judged : Judged
-  judged = judgedBatchOf (length rs) (length ps)
+  judged = judgedBatchOf (length rs) (roomsOf lent)
 
   abbrev pub count : ℕ
   count = judged .run
@@ -109,23 +126,29 @@ module _ {M : Type 1} {𝓤 : URA M} {H : Heap 𝓤} {A : Atoms 𝓤} (Z : Setti
   start = seenChosen s
 
   pub here : count ≤ length rs
-  here = runs-within (length rs) (length ps) .0
+  here = runs-within (length rs) (roomsOf lent) .0
 
   pub fits : count ≤ length ps
-  fits = runs-within (length rs) (length ps) .1
+  fits = runs-within (length rs) (roomsOf lent) .1
+
+  pub fits′ : count ≤ length us
+  fits′ = runs-within (length rs) (roomsOf lent) .2
 
   abbrev pub N : Type 0
-  N = Now count rs start ps
+  N = Now count rs start lent
 
   -- what `finish` gives at t, and the record to run
   abbrev pub result-at : N → Ran
   result-at t = finishOf (t .c) judged
 
   abbrev pub record-at : N → Retirement
-  record-at t = rec count rs start ps t
+  record-at t = rec count rs start lent t
 
   abbrev pub Records : Fml
   Records = ShrSlice (named 0) κ R.the-row .own rs-ref (rs-val ∷ [])
 
   abbrev pub Costs : List ℕ → ℕ → Fml
   Costs cs k = MutSlice (named 1) κ′ u32 .own (costs-ref γ′ cs) (costs-val k ∷ [])
+
+  abbrev pub Answers : List ℕ → ℕ → Fml
+  Answers ns k = MutSlice (named 2) κ″ u8 .own (answers-ref γ″ ns) (answers-val k ∷ [])

@@ -3,6 +3,7 @@
 use mathlib.Core.Path.{sym, _∙_}
 use Rattle.profile.specs.Profile.{profileAt}
 use Rattle.in_place.specs.Lent.{lent}
+use Rattle.refusals.specs.Runs.{runs}
 use Rattle.host.proofs.Batch.{accepted-within, batch-refused, batch-accepted}
 use borrow.Author.Needs.{needs}
 use Rattle.host.proofs.words.run_batch_at.Statement.{statement}
@@ -22,7 +23,7 @@ enum-told-2 c = search needs
 
 run-words-requires : tie.Need-run-words-requires
 run-words-requires c κs =
-    let k = c .before .before .before .before in
+    let k = c .before .before .before .before .before in
     accepted-within _ _ (sym (k .before .before .batch-verdict .ensures) ∙ k .enum-told2 .given .1)
 
 host-ran-requires-2 : tie.Need-host-ran-requires-2
@@ -32,19 +33,22 @@ returns : tie.Need-returns
 returns c =
     let k = c .before in
     let v = k .before .before in
-    let a = v .before .before .before .args in
-    batch-refused (profileAt (a .profile)) (a .records .now) (a .costs .now) (lent (a .tags .now) (a .state .now) (a .window .now)) (k .enum-told .given .1) (v .batch-verdict .ensures) (c .host-ran .ensures)
+    let a = v .before .before .before .before .args in
+    batch-refused (profileAt (a .profile)) (a .records .now) (runs (a .costs .now) (a .answers .now)) (lent (a .tags .now) (a .state .now) (a .window .now)) (k .enum-told .given .1) (v .batch-verdict .ensures) (c .host-ran .ensures)
 
 same-length : tie.Need-same-length
 same-length c = search needs
 
+same-length-2 : tie.Need-same-length-2
+same-length-2 c = search needs
+
 returns-2 : tie.Need-returns-2
 returns-2 c =
-    let w = c .before .before .before in
-    let k = w .before .before .before .before .before in
+    let w = c .before .before .before .before .before in
+    let k = w .before .before .before .before .before .before in
     let v = k .before .before in
-    let a = v .before .before .before .args in
-    batch-accepted (profileAt (a .profile)) (a .records .now) (a .costs .now) (lent (a .tags .now) (a .state .now) (a .window .now)) (k .enum-told2 .given .1) (v .batch-verdict .ensures) (c .host-ran2 .ensures) (w .run-words .ensures)
+    let a = v .before .before .before .before .args in
+    batch-accepted (profileAt (a .profile)) (a .records .now) (runs (a .costs .now) (a .answers .now)) (lent (a .tags .now) (a .state .now) (a .window .now)) (k .enum-told2 .given .1) (v .batch-verdict .ensures) (c .host-ran2 .ensures) (w .run-words .ensures)
 
 pub run-batch-at-spec : {M : Type 1} → statement M
 run-batch-at-spec =
@@ -58,4 +62,5 @@ run-batch-at-spec =
     host-ran-requires-2
     returns
     same-length
+    same-length-2
     returns-2)

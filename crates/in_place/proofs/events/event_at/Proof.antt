@@ -9,6 +9,7 @@ use Rattle.state.specs.declared.Event.{Event}
 use Rattle.state.specs.Events.{countOf}
 use Rattle.in_place.specs.Lent.{Lent, lent}
 use Rattle.in_place.specs.Retire.{Paid, paid, paidFor}
+use Rattle.in_place.proofs.Held.{taken-out}
 use borrow.Author.Needs.{needs}
 use Rattle.in_place.proofs.events.event_at.Statement.{statement}
 use Rattle.in_place.proofs.events.event_at.Tie as tie
@@ -25,6 +26,12 @@ enum-known-e c = search needs
 
 retire-in-place-requires : tie.Need-retire-in-place-requires
 retire-in-place-requires c κs = search needs
+
+clocks-in-requires : tie.Need-clocks-in-requires
+clocks-in-requires c κs = search needs
+
+answer-in-requires : tie.Need-answer-in-requires
+answer-in-requires c κs = search needs
 
 enum-told : tie.Need-enum-told
 enum-told c = search needs
@@ -46,27 +53,29 @@ clear-user-at-requires c κs = search needs
 
 returns : tie.Need-returns
 returns c =
-    let k = c .before .before .before .before .before in
+    let d = c .before in
+    let t = d .before in
+    let k = t .before .before .before .before .before in
     let s = k .before .before in
-    told (s .args .profile) (from s) (k .e .given .1) (c .retire-in-place .ensures) refl
+    told (s .args .profile) (from s) (k .e .given .1) (taken-out (s .args .profile) (from s) _ (t .retire-in-place .ensures) (d .clocks-in .ensures) (c .answer-in .ensures)) refl
 
 returns-2 : tie.Need-returns-2
 returns-2 c =
     let k = c .before .before in
     let s = k .before .before in
-    told (s .args .profile) (from s) (k .enum-told .given .1) (ap (λ (ns : List ℕ). paid (clocks 0) (lent (s .args .tags .now) (s .args .state .now) ns)) (c .shut-window .ensures)) refl
+    told (s .args .profile) (from s) (k .enum-told .given .1) (ap (λ (ns : List ℕ). paid (clocks 0) 0 (lent (s .args .tags .now) (s .args .state .now) ns)) (c .shut-window .ensures)) refl
 
 returns-3 : tie.Need-returns-3
 returns-3 c =
     let k = c .before .before .before in
     let s = k .before .before in
-    told (s .args .profile) (from s) (k .enum-told2 .given .1) (ap (paid (clocks 0)) (c .clear-all-at .ensures (s .args .profile) (s .args .tags .now))) refl
+    told (s .args .profile) (from s) (k .enum-told2 .given .1) (ap (paid (clocks 0) 0) (c .clear-all-at .ensures (s .args .profile) (s .args .tags .now))) refl
 
 returns-4 : tie.Need-returns-4
 returns-4 c =
     let k = c .before .before .before in
     let s = k .before .before in
-    told (s .args .profile) (from s) (k .enum-told3 .given .1) (ap (paid (clocks 0)) (c .clear-user-at .ensures (s .args .profile) (s .args .tags .now))) refl
+    told (s .args .profile) (from s) (k .enum-told3 .given .1) (ap (paid (clocks 0) 0) (c .clear-user-at .ensures (s .args .profile) (s .args .tags .now))) refl
 
 pub event-at-spec : {M : Type 1} → statement M
 event-at-spec =
@@ -74,6 +83,8 @@ event-at-spec =
     (tie.spec
     enum-known-e
     retire-in-place-requires
+    clocks-in-requires
+    answer-in-requires
     enum-told
     shut-window-requires
     enum-told-2

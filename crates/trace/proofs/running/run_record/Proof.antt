@@ -33,7 +33,7 @@ returns c =
     let s = k .before .before .before .before in
     let got = k .read .given .0 in
     let h = c .before .event-at in
-    ap₂ (λ (p : Paid) (n : ℕ). turned (record { next = got .1 .0; count = n; cost = p .cost }) (p .lent)) (h .ensures .0) (h .ensures .1) ∙ sym (ap (turnOf (s .args .profile) (s .args .at) (from s)) (sym (k .before .before .read-record .ensures) ∙ k .read .given .1))
+    ap₂ (λ (p : Paid) (n : ℕ). turned (record { next = got .1 .0; count = n; cost = p .cost; answer = p .answer }) (p .lent)) (h .ensures .0) (h .ensures .1) ∙ sym (ap (turnOf (s .args .profile) (s .args .at) (from s)) (sym (k .before .before .read-record .ensures) ∙ k .read .given .1))
 
 returns-2 : tie.Need-returns-2
 returns-2 c =

@@ -1,0 +1,13 @@
+-- The number of the cache's answer is at most 3.
+-- Assumes nothing.
+use Prim.Native.Nat.{_≤_}
+use native.Mathlib.Omega.{arith}
+use Rattle.cost.specs.declared.branch.Answer.{Answer}
+use Rattle.cost.specs.declared.branch.Answer.the-variants.{NotConsulted, Miss, PredictedNotTaken, PredictedTaken}
+use Rattle.cost.specs.Branch.{answerNumber}
+
+pub number-most : (a : Answer) → answerNumber a ≤ 3
+number-most NotConsulted = omega arith
+number-most Miss = omega arith
+number-most PredictedNotTaken = omega arith
+number-most PredictedTaken = omega arith
