@@ -12,6 +12,8 @@ const uint16_t KEPT = TIMING_060_CACHED | TIMING_060_ESS | TIMING_060_EBC | TIMI
 const uint64_t ACCEPTED = TIMING_060_ACCEPTED;
 const uint32_t CRATE = TIMING_060_PROFILE_CRATE, MENDED = TIMING_060_PROFILE_MENDED;
 
+bool gives(timing_060_retired r, uint32_t clocks, uint32_t answer) { return r.clocks == clocks && r.answer == answer; }
+
 bool head_is(const timing_060 &t, bool open, uint16_t op, uint32_t address) {
     return (timing_060_has_head(&t) != 0) == open && timing_060_head_opcode(&t) == op &&
            timing_060_head_address(&t) == address;
@@ -21,7 +23,8 @@ void steps() {
     timing_060 t;
     timing_060_fresh(&t, MENDED);
     expect(t.profile == MENDED, "the profile of a fresh state");
-    expect(timing_060_retire(&t, 0x7000, KEPT, 0x1000, 0x1002, 4) == 1, "the clocks of MOVEQ into D0");
+    timing_060_retired moveq = timing_060_retire(&t, 0x7000, KEPT, 0x1000, 0x1002, 4);
+    expect(gives(moveq, 1, TIMING_060_NOT_CONSULTED), "MOVEQ into D0");
     expect(t.window[TIMING_060_WINDOW_OPEN] == 1, "the window behind it");
     expect(head_is(t, true, 0x7000, 0x1000), "the head");
     timing_060_break(&t);
@@ -35,6 +38,26 @@ void steps() {
     expect(t.profile == MENDED, "the profile after breaks and clears");
 }
 
+// BNE, met again and again: each answer of the branch cache.
+void answers() {
+    const uint16_t TAKEN = KEPT | TIMING_060_FLOWED, NO_EBC = TIMING_060_CACHED | TIMING_060_FLOWED;
+    const struct {
+        uint16_t flags;
+        uint32_t ppc, clocks, answer;
+        const char *what;
+    } MET[] = {
+        {TAKEN, 0x1000, 7, TIMING_060_MISS, "a cold slot"},
+        {KEPT, 0x1000, 7, TIMING_060_PREDICTED_TAKEN, "a wrong guess"},
+        {KEPT, 0x1000, 1, TIMING_060_PREDICTED_NOT_TAKEN, "a right guess of not taken"},
+        {TAKEN, 0x1200, 7, TIMING_060_MISS, "another branch's slot"},
+        {TAKEN, 0x1200, 1, TIMING_060_PREDICTED_TAKEN, "a right guess of taken"},
+        {NO_EBC, 0x1200, 7, TIMING_060_NOT_CONSULTED, "a branch without EBC"},
+    };
+    timing_060 t = timing_060();
+    for (const auto &m : MET)
+        expect(gives(timing_060_retire(&t, 0x66FC, m.flags, m.ppc, m.ppc - 2, 10), m.clocks, m.answer), m.what);
+}
+
 // EOR.W D0,D1 and MOVE.W D1,D2, which reads what the EOR writes; and CMPM.B (A0)+,(A1)+, of which the crate's profile
 // has no memory.
 void profiles() {
@@ -43,8 +66,9 @@ void profiles() {
         const bool mended = profile == MENDED;
         timing_060 t;
         timing_060_fresh(&t, profile);
-        expect(timing_060_retire(&t, 0xB141, KEPT, 0x1000, 0x1002, 4) == 1, "the clocks of EOR");
-        expect(timing_060_retire(&t, 0x3401, KEPT, 0x1002, 0x1004, 4) == (mended ? 1 : 0), "the clocks behind EOR");
+        expect(timing_060_retire(&t, 0xB141, KEPT, 0x1000, 0x1002, 4).clocks == 1, "the clocks of EOR");
+        const uint32_t behind = timing_060_retire(&t, 0x3401, KEPT, 0x1002, 0x1004, 4).clocks;
+        expect(behind == (mended ? 1 : 0), "the clocks behind EOR");
         expect(timing_060_class_word(0x7000, profile) == 0x0404, "the class word of MOVEQ");
         expect(timing_060_class_word(0xB308, profile) == (mended ? 0x4404 : 0x0404), "the class word of CMPM");
         timing_060_masks m = timing_060_masks_of(0x7000, profile);
@@ -54,16 +78,31 @@ void profiles() {
     }
 }
 
+// The batch: MOVEQ into D0 and D1, and BRA twice. The trace: BRA once more, and MOVEQ into D0.
 void runs() {
-    static const timing_060_record BATCH[2] = {{0x7000, KEPT, 0x1000, 0x1002, 4}, {0x7200, KEPT, 0x1002, 0x1004, 4}};
-    static const uint8_t TRACE[TIMING_060_RECORD_BYTES] = {16, 0, 1, 0, 0, 0x70, 30, 0, 0, 16, 0, 0, 2, 16, 0, 0, 4};
+    static const timing_060_record BATCH[4] = {{0x7000, KEPT, 0x1000, 0x1002, 4},
+                                               {0x7200, KEPT, 0x1002, 0x1004, 4},
+                                               {0x60FE, KEPT | TIMING_060_FLOWED, 0x1004, 0x1004, 10},
+                                               {0x60FE, KEPT | TIMING_060_FLOWED, 0x1004, 0x1004, 10}};
+    static const uint8_t TRACE[2 * TIMING_060_RECORD_BYTES] = {
+        16, 0, 1, 0, 0xFE, 0x60, 31, 0, 4, 16, 0, 0, 4, 16, 0, 0, 10, 0, 0, 0,
+        16, 0, 1, 0, 0x00, 0x70, 30, 0, 0, 16, 0, 0, 2, 16, 0, 0, 4,  0, 0, 0,
+    };
     timing_060 t = timing_060(), read = timing_060();
-    uint32_t places[2];
-    uint8_t bytes[TIMING_060_COST_BYTES], image[TIMING_060_IMAGE_BYTES];
-    expect(is(timing_060_run_batch(&t, BATCH, 2, places, 2), ACCEPTED, 0, 2, 1), "a batch");
-    expect(places[0] == 1 && places[1] == 0, "its costs");
-    expect(is(timing_060_run_trace(&t, TRACE, sizeof TRACE, bytes, sizeof bytes), ACCEPTED, 0, 1, 1), "a trace");
-    expect(bytes[0] == 1 && bytes[1] == 0, "its costs");
+    uint32_t places[4];
+    uint8_t bytes[2 * TIMING_060_COST_BYTES], told[5] = {9, 9, 9, 9, 9}, image[TIMING_060_IMAGE_BYTES];
+    timing_060_ran ran = timing_060_run_batch(&t, BATCH, 4, places, 4, told, 3);
+    expect(is(ran, TIMING_060_REFUSED_ROOM, 0, 0, 0), "a batch with too little room for answers");
+    ran = timing_060_run_batch(&t, BATCH, 4, places, 4, told, sizeof told);
+    expect(is(ran, ACCEPTED, 0, 4, 9), "a batch");
+    expect(places[0] == 1 && places[1] == 0 && places[2] == 7 && places[3] == 1, "its costs");
+    expect(told[0] == 0 && told[1] == 0 && told[2] == 1 && told[3] == 3 && told[4] == 9, "its answers");
+    ran = timing_060_run_trace(&t, TRACE, sizeof TRACE, bytes, sizeof bytes, told, 1);
+    expect(is(ran, TIMING_060_REFUSED_ROOM, sizeof TRACE, 0, 0), "a trace with too little room for answers");
+    ran = timing_060_run_trace(&t, TRACE, sizeof TRACE, bytes, sizeof bytes, told, sizeof told);
+    expect(is(ran, ACCEPTED, 0, 2, 2), "a trace");
+    expect(bytes[0] == 1 && bytes[1] == 0 && bytes[4] == 1 && bytes[5] == 0, "its costs");
+    expect(told[0] == 3 && told[1] == 0 && told[2] == 1, "its answers");
     expect(is(timing_060_image_write(&t, image, sizeof image), ACCEPTED, 0, sizeof image, 0), "an image written");
     expect(is(timing_060_image_read(&read, image, sizeof image), ACCEPTED, 0, 0, 0), "an image read");
     expect(read.window[TIMING_060_WINDOW_DEFS] == 1, "the window of an image");
@@ -103,21 +142,23 @@ void old_image() {
 void lent() {
     timing_060 t;
     uint32_t place = 9;
-    uint8_t image[TIMING_060_IMAGE_BYTES];
+    uint8_t told = 9, image[TIMING_060_IMAGE_BYTES];
     timing_060_fresh_at(t.tags, t.state, t.window);
     expect(timing_060_retire_at(t.tags, t.state, t.window, MENDED, 0x7000, KEPT, 0x1000, 0x1002, 4) == 1, "a step");
+    const uint64_t bra = timing_060_retire_at(t.tags, t.state, t.window, CRATE, 0x60FE, 31, 0x1004, 0x1004, 10);
+    expect(bra == ((uint64_t)TIMING_060_MISS << 32 | 7), "a step with an answer");
     timing_060_break_at(t.window);
     timing_060_clear_user_at(t.state, t.window);
     timing_060_clear_all_at(t.state, t.window);
     timing_060_bytes no_bytes = {nullptr, 0};
-    timing_060_bytes_mut no_room = {nullptr, 0}, room = {image, sizeof image};
+    timing_060_bytes_mut no_room = {nullptr, 0}, room = {image, sizeof image}, told_room = {&told, 1};
     timing_060_words no_words = {nullptr, 0};
     timing_060_words_mut places = {&place, 1};
-    timing_060_ran ran = timing_060_run_trace_at(no_bytes, no_room, t.tags, t.state, t.window, CRATE);
+    timing_060_ran ran = timing_060_run_trace_at(no_bytes, no_room, t.tags, t.state, t.window, CRATE, no_room);
     expect(is(ran, ACCEPTED, 0, 0, 0), "no trace");
-    ran = timing_060_run_batch_at(no_words, places, t.tags, t.state, t.window, MENDED);
+    ran = timing_060_run_batch_at(no_words, places, t.tags, t.state, t.window, MENDED, told_room);
     expect(is(ran, ACCEPTED, 0, 0, 0), "no batch");
-    expect(place == 9, "the place of no batch");
+    expect(place == 9 && told == 9, "the places of no batch");
     ran = timing_060_image_write_at(t.tags, t.state, t.window, room);
     expect(is(ran, ACCEPTED, 0, sizeof image, 0), "an image written");
     ran = timing_060_image_read_at(no_bytes, t.tags, t.state, t.window);
@@ -128,6 +169,7 @@ void lent() {
 
 static int host(void) {
     steps();
+    answers();
     profiles();
     runs();
     heads();

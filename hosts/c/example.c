@@ -1,6 +1,7 @@
 /* An example host. It retires the four instructions of document 01's worked trace one by one, and prints the lines that
- * the cost lister prints for them. Then it goes through every other function of timing_060.h, in both profiles, and
- * holds what they give against that: where anything differs it says so, and its exit status is 1.
+ * the cost lister prints for them, and then what the branch cache predicted of each. It goes on with every other
+ * function of timing_060.h, in both profiles, and holds what they give against that: where anything differs it says so,
+ * and its exit status is 1.
  *
  * On x86-64, in this folder, after `tools/install PREFIX`, where pkg-config looks into PREFIX/lib/pkgconfig:
  *     cc -o example example.c $(pkg-config --cflags --libs timing_060)
@@ -16,6 +17,12 @@ static void print_opcode(uint16_t op) {
     char s[4];
     for (int i = 0; i < 4; i++) s[i] = "0123456789ABCDEF"[op >> (12 - 4 * i) & 15];
     put(s, 4);
+}
+
+/* What the branch cache predicted, in words. */
+static const char *words_of(uint32_t answer) {
+    static const char *const WORDS[] = {"not consulted", "miss", "predicted not taken", "predicted taken"};
+    return answer < 4 ? WORDS[answer] : "no answer";
 }
 
 static int same_window(const timing_060 *a, const timing_060 *b) {
@@ -37,6 +44,11 @@ enum {
     TAKEN = KEPT | TIMING_060_FLOWED,
     CRATE = TIMING_060_PROFILE_CRATE,
     MENDED = TIMING_060_PROFILE_MENDED,
+    /* what the branch cache predicted, by shorter names */
+    NONE = TIMING_060_NOT_CONSULTED,
+    MISS = TIMING_060_MISS,
+    NOT_TAKEN = TIMING_060_PREDICTED_NOT_TAKEN,
+    PREDICTED = TIMING_060_PREDICTED_TAKEN,
     /* what can be refused here, by shorter names */
     OK = TIMING_060_ACCEPTED,
     OVERSIZED = TIMING_060_REFUSED_OVERSIZED,
@@ -66,83 +78,179 @@ static const uint8_t WORKED_BYTES[TIMING_060_RECORD_BYTES * INSTRUCTIONS] = {
     0x10, 0, 1, 0, 0xFE, 0x60, 0x1F, 0, 0x04, 0x10, 0, 0, 0x04, 0x10, 0, 0, 10, 0, 0, 0,
 };
 static const uint32_t CLOCKS[INSTRUCTIONS] = {1, 0, 7, 1};
+static const uint8_t ANSWERS[INSTRUCTIONS] = {NONE, NONE, MISS, PREDICTED};
+
+/* How its line starts. */
+static void print_instruction(int i) {
+    print_decimal((uint64_t)i);
+    print(" ");
+    print_opcode(WORKED[i].op);
+    print(" ");
+}
 
 /* The emulator's own loop: each instruction as it retires. */
 static void step_by_step(timing_060 *t) {
+    uint32_t answers[INSTRUCTIONS];
     uint64_t total = 0;
     print("index opcode clocks\n");
     for (int i = 0; i < INSTRUCTIONS; i++) {
         const timing_060_record *r = &WORKED[i];
-        uint32_t clocks = timing_060_retire(t, r->op, r->flags, r->ppc, r->pc, r->raw);
-        total += clocks;
-        print_decimal((uint64_t)i);
-        print(" ");
-        print_opcode(r->op);
-        print(" ");
-        print_decimal(clocks);
+        timing_060_retired retired = timing_060_retire(t, r->op, r->flags, r->ppc, r->pc, r->raw);
+        total += retired.clocks;
+        answers[i] = retired.answer;
+        print_instruction(i);
+        print_decimal(retired.clocks);
         print("\n");
-        expect(clocks == CLOCKS[i], "the clocks of a step");
+        expect(retired.clocks == CLOCKS[i], "the clocks of a step");
+        expect(retired.answer == ANSWERS[i], "the answer of a step");
     }
     print("total ");
     print_decimal(INSTRUCTIONS);
     print(" ");
     print_decimal(total);
     print("\n");
-}
-
-/* A refused trace or batch writes no number, not even those of a window that is read as another's. */
-static void refused_writes_nothing(uint8_t *bytes, uint32_t *places) {
-    static const uint16_t WINDOWS[2][TIMING_060_WINDOW] = {{2, 0, 5, 0, 9, 0x7000, 0x1000, 1},
-                                                           {0, 1, 3, 0, 0xFFFF, 0x7000, 0x1000, 1}};
-    static timing_060 t, given;
-    timing_060_ran ran;
-    for (int w = 0; w < 2; w++) {
-        for (int i = 0; i < TIMING_060_WINDOW; i++) t.window[i] = given.window[i] = WINDOWS[w][i];
-        ran = timing_060_run_trace(&t, WORKED_BYTES, 79, bytes, 16);
-        expect(is(ran, CUT, 60, 0, 0), "the refusal of a trace on any window");
-        expect(same_state(&t, &given), "the numbers after a refused trace");
-        ran = timing_060_run_batch(&t, WORKED, INSTRUCTIONS, places, 0);
-        expect(is(ran, ROOM, 0, 0, 0), "the refusal of a batch on any window");
-        expect(same_state(&t, &given), "the numbers after a refused batch");
-        ran = timing_060_run_batch(&t, WORKED, (uint64_t)1 << 62, places, 0);
-        expect(is(ran, OVERSIZED, 0, 0, 0), "the refusal of 2^62 records");
-        ran = timing_060_run_batch(&t, WORKED, UINT64_MAX, places, 0);
-        expect(is(ran, OVERSIZED, 0, 0, 0), "the refusal of 2^64 - 1 records");
-        expect(same_state(&t, &given), "the numbers after an oversized batch");
+    /* the branch met a cold slot, which is why it cost 7; the second time it was predicted */
+    print("index opcode answer\n");
+    for (int i = 0; i < INSTRUCTIONS; i++) {
+        print_instruction(i);
+        print(words_of(answers[i]));
+        print("\n");
     }
 }
 
-/* A trace and a batch cost the same, and leave the same state; the place beyond the last cost stays. */
+/* A refused trace or batch writes no number: neither run, nor a state, not even a window that is read as another's. */
+static void refused_writes_nothing(void) {
+    static const uint16_t WINDOWS[2][TIMING_060_WINDOW] = {{2, 0, 5, 0, 9, 0x7000, 0x1000, 1},
+                                                           {0, 1, 3, 0, 0xFFFF, 0x7000, 0x1000, 1}};
+    enum { N = INSTRUCTIONS, BYTES = sizeof WORKED_BYTES };
+    static timing_060 t, given;
+    static uint8_t bytes[TIMING_060_COST_BYTES * N], answers[N];
+    static uint32_t places[N];
+    timing_060_ran ran;
+    for (int w = 0; w < 2; w++) {
+        for (int i = 0; i < TIMING_060_WINDOW; i++) t.window[i] = given.window[i] = WINDOWS[w][i];
+        ran = timing_060_run_trace(&t, WORKED_BYTES, BYTES - 1, bytes, sizeof bytes, answers, N);
+        expect(is(ran, CUT, 60, 0, 0), "the refusal of a trace on any window");
+        ran = timing_060_run_trace(&t, WORKED_BYTES, BYTES - 1, bytes, 0, answers, 0);
+        expect(is(ran, CUT, 60, 0, 0), "the refusal of a cut trace before that of its room");
+        ran = timing_060_run_trace(&t, WORKED_BYTES, BYTES, bytes, sizeof bytes - 1, answers, N);
+        expect(is(ran, ROOM, BYTES, 0, 0), "the refusal of a trace with too little room for costs");
+        ran = timing_060_run_trace(&t, WORKED_BYTES, BYTES, bytes, sizeof bytes, answers, N - 1);
+        expect(is(ran, ROOM, BYTES, 0, 0), "the refusal of a trace with too little room for answers");
+        expect(same_state(&t, &given), "the numbers after a refused trace");
+        ran = timing_060_run_batch(&t, WORKED, N, places, 0, answers, N);
+        expect(is(ran, ROOM, 0, 0, 0), "the refusal of a batch on any window");
+        ran = timing_060_run_batch(&t, WORKED, N, places, N, answers, N - 1);
+        expect(is(ran, ROOM, 0, 0, 0), "the refusal of a batch with too little room for answers");
+        expect(same_state(&t, &given), "the numbers after a refused batch");
+        ran = timing_060_run_batch(&t, WORKED, (uint64_t)1 << 62, places, 0, answers, 0);
+        expect(is(ran, OVERSIZED, 0, 0, 0), "the refusal of 2^62 records");
+        ran = timing_060_run_batch(&t, WORKED, UINT64_MAX, places, 0, answers, 0);
+        expect(is(ran, OVERSIZED, 0, 0, 0), "the refusal of 2^64 - 1 records");
+        expect(same_state(&t, &given), "the numbers after an oversized batch");
+    }
+    for (int i = 0; i < N; i++) {
+        expect(places[i] == 0 && answers[i] == 0, "the places after a refusal");
+        for (int j = 0; j < 4; j++) expect(bytes[4 * i + j] == 0, "the bytes after a refusal");
+    }
+}
+
+/* A trace and a batch cost the same, and leave the same state; what is beyond the last cost and answer stays. */
 static void runs(const timing_060 *stepped) {
     static timing_060 t;
-    static uint8_t bytes[TIMING_060_COST_BYTES * INSTRUCTIONS + 1];
+    static uint8_t bytes[TIMING_060_COST_BYTES * INSTRUCTIONS + 1], answers[INSTRUCTIONS + 1];
     static uint32_t places[INSTRUCTIONS + 1];
     timing_060_ran ran;
     timing_060_fresh(&t, CRATE);
-    bytes[sizeof bytes - 1] = 99;
-    ran = timing_060_run_trace(&t, WORKED_BYTES, sizeof WORKED_BYTES, bytes, sizeof bytes);
+    bytes[sizeof bytes - 1] = answers[INSTRUCTIONS] = 99;
+    ran = timing_060_run_trace(&t, WORKED_BYTES, sizeof WORKED_BYTES, bytes, sizeof bytes, answers, sizeof answers);
     expect(is(ran, OK, 0, 4, 9), "what the trace gives");
     expect(same_state(&t, stepped), "the state after the trace");
     for (int i = 0; i < 4 * INSTRUCTIONS; i++) expect(bytes[i] == (i % 4 ? 0 : CLOCKS[i / 4]), "a cost of the trace");
+    for (int i = 0; i < INSTRUCTIONS; i++) expect(answers[i] == ANSWERS[i], "an answer of the trace");
     expect(bytes[sizeof bytes - 1] == 99, "the byte beyond the trace's costs");
-    ran = timing_060_run_trace(&t, WORKED_BYTES, 79, bytes, sizeof bytes);
+    expect(answers[INSTRUCTIONS] == 99, "the byte beyond the trace's answers");
+    ran = timing_060_run_trace(&t, WORKED_BYTES, 79, bytes, sizeof bytes, answers, sizeof answers);
     expect(is(ran, CUT, 60, 0, 0), "the refusal of a cut trace");
     expect(same_state(&t, stepped), "the state after a refused trace");
-    refused_writes_nothing(bytes, places);
+    refused_writes_nothing();
 
     timing_060_fresh(&t, CRATE);
-    places[INSTRUCTIONS] = 99;
-    ran = timing_060_run_batch(&t, WORKED, INSTRUCTIONS, places, INSTRUCTIONS + 1);
+    for (int i = 0; i <= INSTRUCTIONS; i++) places[i] = answers[i] = 99;
+    ran = timing_060_run_batch(&t, WORKED, INSTRUCTIONS, places, INSTRUCTIONS + 1, answers, INSTRUCTIONS + 1);
     expect(is(ran, OK, 0, 4, 9), "what the batch gives");
     expect(same_state(&t, stepped), "the state after the batch");
     for (int i = 0; i < INSTRUCTIONS; i++) expect(places[i] == CLOCKS[i], "a cost of the batch");
+    for (int i = 0; i < INSTRUCTIONS; i++) expect(answers[i] == ANSWERS[i], "an answer of the batch");
     expect(places[INSTRUCTIONS] == 99, "the place beyond the batch's costs");
-    ran = timing_060_run_batch(&t, WORKED, INSTRUCTIONS, places, INSTRUCTIONS - 1);
+    expect(answers[INSTRUCTIONS] == 99, "the byte beyond the batch's answers");
+    ran = timing_060_run_batch(&t, WORKED, INSTRUCTIONS, places, INSTRUCTIONS - 1, answers, INSTRUCTIONS);
     expect(is(ran, ROOM, 0, 0, 0), "the refusal of a batch with too few places");
 }
 
+/* A branch as it is met: BNE in either direction, and DBF. What the cache predicts, and what that costs; in steps, as a
+ * batch and as a trace. */
+enum { MET = 16, NO_EBC = TAKEN & ~TIMING_060_EBC, UNCACHED = TAKEN & ~TIMING_060_CACHED };
+static const struct {
+    timing_060_record record;
+    uint8_t clocks, answer;
+} MEETINGS[MET] = {
+    {{0x66FC, NO_EBC, 0x1008, 0x1006, 10}, 7, NONE},     /* EBC is off */
+    {{0x66FC, UNCACHED, 0x1008, 0x1006, 10}, 7, NONE},   /* an uncached fetch */
+    {{0x66FC, KEPT, 0x1008, 0x100A, 8}, 1, MISS},        /* a miss that is not taken leaves the slot cold */
+    {{0x66FC, TAKEN, 0x1008, 0x1006, 10}, 7, MISS},      /* a cold slot */
+    {{0x66FC, TAKEN, 0x1008, 0x1006, 10}, 1, PREDICTED}, /* a right guess */
+    {{0x66FC, KEPT, 0x1008, 0x100A, 8}, 7, PREDICTED},   /* a wrong guess: it was not taken */
+    {{0x66FC, KEPT, 0x1008, 0x100A, 8}, 7, PREDICTED},   /* once more, and the guess turns */
+    {{0x66FC, KEPT, 0x1008, 0x100A, 8}, 1, NOT_TAKEN},   /* a right guess */
+    {{0x66FC, TAKEN, 0x1008, 0x1006, 10}, 7, NOT_TAKEN}, /* a wrong guess: it was taken */
+    {{0x66FC, TAKEN, 0x1208, 0x1206, 10}, 7, MISS},      /* another branch's slot, which it takes */
+    {{0x66FC, TAKEN, 0x1008, 0x1006, 10}, 7, MISS},      /* so the first has none */
+    {{0x7000, KEPT, 0x1006, 0x1008, 4}, 1, NONE},        /* MOVEQ, which is no branch */
+    {{0x66FC, TAKEN, 0x1008, 0x1006, 10}, 0, PREDICTED}, /* a right guess behind a head */
+    {{0x51C8, KEPT, 0x1010, 0x1000, 10}, 7, MISS},       /* DBF loops */
+    {{0x51C8, KEPT, 0x1010, 0x1014, 14}, 7, PREDICTED},  /* and ends */
+    {{0x4E75, TAKEN, 0x1008, 0x2000, 16}, 5, NONE},      /* RTS flows, and is no branch */
+};
+
+static void put_record(uint8_t *at, const timing_060_record *r) {
+    const uint32_t words[] = {16 | 1 << 16, r->op | (uint32_t)r->flags << 16, r->ppc, r->pc, (uint32_t)r->raw};
+    for (int i = 0; i < TIMING_060_RECORD_BYTES; i++) at[i] = (uint8_t)(words[i / 4] >> (8 * (i % 4)));
+}
+
+static void met_branches(uint32_t profile) {
+    static timing_060 t, stepped;
+    static timing_060_record batch[MET];
+    static uint8_t trace[TIMING_060_RECORD_BYTES * MET], bytes[TIMING_060_COST_BYTES * MET], answers[MET];
+    static uint32_t places[MET];
+    timing_060_fresh(&stepped, profile);
+    for (int i = 0; i < MET; i++) {
+        const timing_060_record *r = &MEETINGS[i].record;
+        timing_060_retired retired = timing_060_retire(&stepped, r->op, r->flags, r->ppc, r->pc, r->raw);
+        expect(retired.clocks == MEETINGS[i].clocks, "the clocks of a branch");
+        expect(retired.answer == MEETINGS[i].answer, "the answer of a branch");
+        batch[i] = *r;
+        put_record(trace + TIMING_060_RECORD_BYTES * i, r);
+    }
+    timing_060_fresh(&t, profile);
+    timing_060_run_batch(&t, batch, MET, places, MET, answers, MET);
+    for (int i = 0; i < MET; i++) expect(places[i] == MEETINGS[i].clocks, "the clocks of a branch, in a batch");
+    for (int i = 0; i < MET; i++) expect(answers[i] == MEETINGS[i].answer, "the answer of a branch, in a batch");
+    expect(same_state(&t, &stepped), "the state after a batch of branches");
+    timing_060_fresh(&t, profile);
+    for (int i = 0; i < MET; i++) answers[i] = 99;
+    timing_060_run_trace(&t, trace, sizeof trace, bytes, sizeof bytes, answers, MET);
+    for (int i = 0; i < MET; i++) expect(bytes[4 * i] == MEETINGS[i].clocks, "the clocks of a branch, in a trace");
+    for (int i = 0; i < MET; i++) expect(answers[i] == MEETINGS[i].answer, "the answer of a branch, in a trace");
+    expect(same_state(&t, &stepped), "the state after a trace of branches");
+    timing_060_clear_all(&t);
+    timing_060_retired cold = timing_060_retire(&t, 0x66FC, TAKEN, 0x1008, 0x1006, 10);
+    expect(cold.clocks == 7 && cold.answer == MISS, "a branch after a clear of all");
+}
+
+/* The clocks alone. */
 static uint32_t retire_one(timing_060 *t, const timing_060_record *r) {
-    return timing_060_retire(t, r->op, r->flags, r->ppc, r->pc, r->raw);
+    return timing_060_retire(t, r->op, r->flags, r->ppc, r->pc, r->raw).clocks;
 }
 
 static const uint8_t ZEROS[IMAGE] = {0};
@@ -279,7 +387,7 @@ static void windows(void) {
     timing_060_clear_all(&t);
     expect(window_is(&t, 1, 1, 1, 0, 1), "an open window");
     expect(head_is(&t, 1, 0xFFFF, 0xFFFFFFFE), "its head");
-    expect(timing_060_retire(&t, 0x7200, KEPT, 0, 2, 4) == 0, "the clocks behind an open window");
+    expect(timing_060_retire(&t, 0x7200, KEPT, 0, 2, 4).clocks == 0, "the clocks behind an open window");
     put_window(&t, SHUT);
     expect(head_is(&t, 0, 0, 0), "the head of a shut window");
     timing_060_image_write(&t, image, IMAGE);
@@ -287,10 +395,10 @@ static void windows(void) {
     timing_060_clear_user(&t);
     expect(is_shut(&t), "a shut window");
     put_window(&t, SHUT);
-    timing_060_run_trace(&t, NULL, 0, NULL, 0);
+    timing_060_run_trace(&t, NULL, 0, NULL, 0, NULL, 0);
     expect(is_shut(&t), "a shut window after no trace");
     put_window(&t, SHUT);
-    timing_060_run_batch(&t, NULL, 0, NULL, 0);
+    timing_060_run_batch(&t, NULL, 0, NULL, 0, NULL, 0);
     expect(is_shut(&t), "a shut window after no batch");
 }
 
@@ -320,7 +428,7 @@ static void next_heads(void) {
         {0xD1C0, KEPT, 0x1002, 0x1004, 8},   /* ADDA.L D0,A0, of class 1 */
     };
     static timing_060 t;
-    static uint8_t bytes[TIMING_060_COST_BYTES];
+    static uint8_t bytes[TIMING_060_COST_BYTES], answer;
     static uint32_t place;
     for (size_t i = 0; i < sizeof SHUTTING / sizeof SHUTTING[0]; i++) {
         head(&t);
@@ -330,10 +438,10 @@ static void next_heads(void) {
     head(&t);
     timing_060_retire(&t, 0x7001, KEPT, 0xFFFFFFFE, 0, 4); /* MOVEQ #1,D0, which does not pair */
     expect(head_is(&t, 1, 0x7001, 0xFFFFFFFE), "the head behind a head");
-    timing_060_run_trace(&t, WORKED_BYTES, TIMING_060_RECORD_BYTES, bytes, sizeof bytes);
+    timing_060_run_trace(&t, WORKED_BYTES, TIMING_060_RECORD_BYTES, bytes, sizeof bytes, &answer, 1);
     expect(head_is(&t, 1, 0x7000, 0x1000), "the head after a trace");
     head(&t);
-    timing_060_run_batch(&t, WORKED, 1, &place, 1);
+    timing_060_run_batch(&t, WORKED, 1, &place, 1, &answer, 1);
     expect(head_is(&t, 1, 0x7000, 0x1000), "the head after a batch");
 }
 
@@ -342,10 +450,11 @@ static void flags(timing_060 *t) {
     static const timing_060_record RTS = {0x4E75, 0xFFE0 | TAKEN, 0x3000, 0x4000, -1};
     static const uint8_t RTS_BYTES[TIMING_060_RECORD_BYTES] = {0x10, 0, 1, 0, 0x75, 0x4E, 0x3F};
     uint32_t clocks = 0;
-    uint8_t bytes[TIMING_060_COST_BYTES];
-    expect(timing_060_retire(t, RTS.op, RTS.flags, RTS.ppc, RTS.pc, RTS.raw) == 5, "the clocks of RTS");
-    expect(is(timing_060_run_batch(t, &RTS, 1, &clocks, 1), OK, 0, 1, 5) && clocks == 5, "the batch of RTS");
-    timing_060_ran ran = timing_060_run_trace(t, RTS_BYTES, sizeof RTS_BYTES, bytes, sizeof bytes);
+    uint8_t bytes[TIMING_060_COST_BYTES], answer = 99;
+    expect(retire_one(t, &RTS) == 5, "the clocks of RTS");
+    timing_060_ran ran = timing_060_run_batch(t, &RTS, 1, &clocks, 1, &answer, 1);
+    expect(is(ran, OK, 0, 1, 5) && clocks == 5 && answer == NONE, "the batch of RTS");
+    ran = timing_060_run_trace(t, RTS_BYTES, sizeof RTS_BYTES, bytes, sizeof bytes, &answer, 1);
     expect(is(ran, FLAG, 0, 0, 0), "the refusal of a flag");
 }
 
@@ -363,7 +472,7 @@ static const uint32_t NUMBER[NUMBERS] = {CRATE, MENDED, 2, 0x10001, 0xFFFFFFFF};
 /* Each through every function that looks at it; only a fresh state sets it. */
 static void profiles(void) {
     static timing_060 t;
-    static uint8_t bytes[2 * TIMING_060_COST_BYTES], image[IMAGE];
+    static uint8_t bytes[2 * TIMING_060_COST_BYTES], answers[2], image[IMAGE];
     static uint32_t places[2];
     for (int i = 0; i < NUMBERS; i++) {
         const uint32_t profile = NUMBER[i], second = profile == MENDED;
@@ -378,10 +487,11 @@ static void profiles(void) {
         timing_060_break(&t);
         timing_060_clear_user(&t);
         timing_060_clear_all(&t);
-        timing_060_ran ran = timing_060_run_trace(&t, OVER_PAIRED_BYTES, sizeof OVER_PAIRED_BYTES, bytes, sizeof bytes);
+        timing_060_ran ran;
+        ran = timing_060_run_trace(&t, OVER_PAIRED_BYTES, sizeof OVER_PAIRED_BYTES, bytes, sizeof bytes, answers, 2);
         expect(is(ran, OK, 0, 2, 1 + second) && bytes[0] == 1 && bytes[4] == second, "the trace of EOR");
         timing_060_break(&t);
-        ran = timing_060_run_batch(&t, OVER_PAIRED, 2, places, 2);
+        ran = timing_060_run_batch(&t, OVER_PAIRED, 2, places, 2, answers, 2);
         expect(is(ran, OK, 0, 2, 1 + second) && places[0] == 1 && places[1] == second, "the batch of EOR");
         timing_060_image_read(&t, image, 0);
         expect(t.profile == profile, "the profile in the end");
@@ -457,6 +567,8 @@ static int host(void) {
     expect(t.state[2] == 0 && t.tags[2] == 0x1004, "the slots after a clear of all");
     windows();
     next_heads();
+    met_branches(CRATE);
+    met_branches(MENDED);
     flags(&t);
     profiles();
     opcodes();

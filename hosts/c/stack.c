@@ -14,6 +14,7 @@ static timing_060_record records[INSTRUCTIONS];
 static uint8_t trace[TIMING_060_RECORD_BYTES * INSTRUCTIONS + 12];
 static uint8_t bytes[TIMING_060_COST_BYTES * INSTRUCTIONS];
 static uint32_t places[INSTRUCTIONS];
+static uint8_t answers[INSTRUCTIONS];
 static uint8_t image[TIMING_060_IMAGE_BYTES];
 static volatile uint64_t given; /* so that no call is left out */
 
@@ -49,7 +50,10 @@ static void fill(void) {
 static void fresh(void) { timing_060_fresh(&t, TIMING_060_PROFILE_CRATE); }
 static void retire(void) {
     for (t.profile = 0; t.profile < PROFILES; t.profile++)
-        for (uint32_t i = 0; i < INSTRUCTIONS; i++) given = timing_060_retire(&t, (uint16_t)i, 15, 2 * i, 0, 100);
+        for (uint32_t i = 0; i < INSTRUCTIONS; i++) {
+            const timing_060_retired r = timing_060_retire(&t, (uint16_t)i, 15, 2 * i, 0, 100);
+            given = r.clocks + r.answer;
+        }
 }
 static void break_pipeline(void) { timing_060_break(&t); }
 static void clear_all(void) { timing_060_clear_all(&t); }
@@ -62,13 +66,13 @@ static void masks_of(void) {
 }
 static void run_trace(void) {
     for (t.profile = 0; t.profile < PROFILES; t.profile++) {
-        given = timing_060_run_trace(&t, trace, sizeof trace, bytes, sizeof bytes).count;
+        given = timing_060_run_trace(&t, trace, sizeof trace, bytes, sizeof bytes, answers, sizeof answers).count;
         expect(given == INSTRUCTIONS, "the trace's count");
     }
 }
 static void run_batch(void) {
     for (t.profile = 0; t.profile < PROFILES; t.profile++) {
-        given = timing_060_run_batch(&t, records, INSTRUCTIONS, places, INSTRUCTIONS).count;
+        given = timing_060_run_batch(&t, records, INSTRUCTIONS, places, INSTRUCTIONS, answers, INSTRUCTIONS).count;
         expect(given == INSTRUCTIONS, "the batch's count");
     }
 }

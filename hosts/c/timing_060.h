@@ -7,9 +7,9 @@
 #include <stddef.h>
 #include <stdint.h>
 
-#define TIMING_060_VERSION "0.4.0"
+#define TIMING_060_VERSION "0.5.0"
 #define TIMING_060_VERSION_MAJOR 0
-#define TIMING_060_VERSION_MINOR 4
+#define TIMING_060_VERSION_MINOR 5
 #define TIMING_060_VERSION_PATCH 0
 
 /* The limits. */
@@ -17,6 +17,7 @@
 #define TIMING_060_BATCH_RECORDS 1048576 /* the most records of a batch */
 #define TIMING_060_RECORD_BYTES 20       /* a retirement in a trace, with its header of 4 bytes */
 #define TIMING_060_COST_BYTES 4          /* the room that a retirement of a trace needs for its clocks */
+#define TIMING_060_ANSWER_BYTES 1        /* the room that a retirement needs for its answer, in a batch, too */
 #define TIMING_060_IMAGE_BYTES 1294      /* a state as an image, of kind 17 */
 #define TIMING_060_OLD_IMAGE_BYTES 1288  /* an image of kind 16, which is still read */
 #define TIMING_060_SLOTS 256             /* the slots of the branch cache */
@@ -73,6 +74,21 @@ typedef struct timing_060_record {
     int32_t raw;
 } timing_060_record;
 
+/* What the branch cache predicted of a retirement, before it learned how the branch went. A 7 with answer 1 is a cold
+ * slot, or another branch's; with 2 or 3 a wrong guess; with 0 the cache had no part in it. */
+enum {
+    TIMING_060_NOT_CONSULTED = 0,       /* no branch, or CACR.EBC off, or an uncached fetch */
+    TIMING_060_MISS = 1,                /* the slot is cold, or another branch's; it costs what 2 costs */
+    TIMING_060_PREDICTED_NOT_TAKEN = 2, /* the slot is this branch's, and predicts not taken */
+    TIMING_060_PREDICTED_TAKEN = 3      /* the slot is this branch's, and predicts taken */
+};
+
+/* What a single step gives: its clocks, and the cache's answer, 0 to 3. */
+typedef struct timing_060_retired {
+    uint32_t clocks;
+    uint32_t answer;
+} timing_060_retired;
+
 /* What a refusal can be, and its place. */
 enum {
     TIMING_060_ACCEPTED = 0,             /* nothing is refused; place 0 */
@@ -82,15 +98,15 @@ enum {
     TIMING_060_REFUSED_WRONG_LENGTH = 4, /* the record's length is not its kind's */
     TIMING_060_REFUSED_CUT = 5,          /* the record's payload is cut */
     TIMING_060_REFUSED_FLAG = 6,         /* a flag above bit 4 is set */
-    TIMING_060_REFUSED_ROOM = 7,         /* too little room was lent; place: a trace's length, else 0 */
+    TIMING_060_REFUSED_ROOM = 7,         /* too little room: costs, answers or image; place: a trace's length, else 0 */
     TIMING_060_REFUSED_IMAGE_LENGTH = 8, /* the image is neither 1,288 nor 1,294 bytes long; place 0 */
     TIMING_060_REFUSED_IMAGE_HEADER = 9, /* its header does not match its length; place 0 */
     TIMING_060_REFUSED_IMAGE_WINDOW = 10 /* its window, head included, is none that a state can have; place 1,284 */
 };
 
 /* What a run gives. A refusal is TIMING_060_ACCEPTED where there is none, else what it is, with its place; then count
- * and total are 0, and nothing at all is written: costs, image, state and window keep every number. Only a refused
- * image that is read writes: a fresh state. */
+ * and total are 0, and nothing at all is written: costs, answers, image, state and window keep every number. Only a
+ * refused image that is read writes: a fresh state. */
 typedef struct timing_060_ran {
     uint64_t refusal;
     uint64_t place;
@@ -143,6 +159,9 @@ TIMING_060_AT(timing_060_record, flags, 2);
 TIMING_060_AT(timing_060_record, ppc, 4);
 TIMING_060_AT(timing_060_record, pc, 8);
 TIMING_060_AT(timing_060_record, raw, 12);
+TIMING_060_SIZE(timing_060_retired, 8);
+TIMING_060_AT(timing_060_retired, clocks, 0);
+TIMING_060_AT(timing_060_retired, answer, 4);
 TIMING_060_SIZE(timing_060_ran, 32);
 TIMING_060_AT(timing_060_ran, refusal, 0);
 TIMING_060_AT(timing_060_ran, place, 8);
@@ -171,8 +190,9 @@ TIMING_060_AT(timing_060_words_mut, count, 8);
 
 void timing_060_fresh_at(uint32_t *tags, uint8_t *state, uint16_t *window);
 
-/* Flag bits above the five are not looked at. */
-uint32_t timing_060_retire_at(uint32_t *tags, uint8_t *state, uint16_t *window, uint32_t profile, uint16_t op,
+/* The clocks in the low 32 bits, the cache's answer in the 32 above them. Flag bits above the five are not looked
+ * at. */
+uint64_t timing_060_retire_at(uint32_t *tags, uint8_t *state, uint16_t *window, uint32_t profile, uint16_t op,
                               uint16_t flags, uint32_t ppc, uint32_t pc, int32_t raw);
 
 void timing_060_break_at(uint16_t *window);
@@ -181,11 +201,13 @@ void timing_060_clear_user_at(uint8_t *state, uint16_t *window);
 
 /* A flag bit above the five is TIMING_060_REFUSED_FLAG. */
 timing_060_ran timing_060_run_trace_at(timing_060_bytes trace, timing_060_bytes_mut costs, uint32_t *tags,
-                                       uint8_t *state, uint16_t *window, uint32_t profile);
+                                       uint8_t *state, uint16_t *window, uint32_t profile,
+                                       timing_060_bytes_mut answers);
 
 /* Four words a record; words beyond the last whole record are not read. Flag bits above the five are not looked at. */
 timing_060_ran timing_060_run_batch_at(timing_060_words records, timing_060_words_mut costs, uint32_t *tags,
-                                       uint8_t *state, uint16_t *window, uint32_t profile);
+                                       uint8_t *state, uint16_t *window, uint32_t profile,
+                                       timing_060_bytes_mut answers);
 
 timing_060_ran timing_060_image_write_at(const uint32_t *tags, const uint8_t *state, const uint16_t *window,
                                          timing_060_bytes_mut image);
@@ -204,11 +226,15 @@ static inline void timing_060_fresh(timing_060 *t, uint32_t profile) {
     t->profile = profile;
 }
 
-/* One retired instruction: its clocks. `raw` is the handler's 68000 count. Flag bits above the five are not looked
- * at. */
-static inline uint32_t timing_060_retire(timing_060 *t, uint16_t op, uint16_t flags, uint32_t ppc, uint32_t pc,
-                                         int32_t raw) {
-    return timing_060_retire_at(t->tags, t->state, t->window, t->profile, op, flags, ppc, pc, raw);
+/* One retired instruction: its clocks and the cache's answer. `raw` is the handler's 68000 count. Flag bits above the
+ * five are not looked at. */
+static inline timing_060_retired timing_060_retire(timing_060 *t, uint16_t op, uint16_t flags, uint32_t ppc,
+                                                   uint32_t pc, int32_t raw) {
+    const uint64_t both = timing_060_retire_at(t->tags, t->state, t->window, t->profile, op, flags, ppc, pc, raw);
+    timing_060_retired r;
+    r.clocks = both & 0xFFFFFFFF;
+    r.answer = both >> 32 & 0xFF; /* it is 0 to 3; the mask lets -Wconversion see that nothing is lost */
+    return r;
 }
 
 /* The pipeline breaks: the window is shut. */
@@ -229,22 +255,25 @@ static inline uint32_t timing_060_head_address(const timing_060 *t) {
     return timing_060_has_head(t) ? high << 16 | low : 0;
 }
 
-/* A trace into 4 bytes a retirement, little-endian. A flag bit above the five refuses the trace:
- * TIMING_060_REFUSED_FLAG, at the record's start. */
+/* A trace into 4 bytes a retirement, little-endian, for its clocks, and 1 byte for the cache's answer. Bytes beyond the
+ * last stay. A flag bit above the five refuses the trace: TIMING_060_REFUSED_FLAG, at the record's start. */
 static inline timing_060_ran timing_060_run_trace(timing_060 *t, const uint8_t *trace, uint64_t bytes, uint8_t *costs,
-                                                  uint64_t room) {
+                                                  uint64_t room, uint8_t *answers, uint64_t answers_room) {
     timing_060_bytes s = {trace, bytes};
-    timing_060_bytes_mut c = {costs, room};
-    return timing_060_run_trace_at(s, c, t->tags, t->state, t->window, t->profile);
+    timing_060_bytes_mut c = {costs, room}, a = {answers, answers_room};
+    return timing_060_run_trace_at(s, c, t->tags, t->state, t->window, t->profile, a);
 }
 
-/* A batch of records into a place each. Flag bits above the five are not looked at. A count whose words do not fit 64
- * bits is far over the limit, and refused as such. */
+/* A batch of records into a place each for its clocks, and 1 byte for the cache's answer. Those beyond the last stay.
+ * Flag bits above the five are not looked at. A count whose words do not fit 64 bits is far over the limit, and refused
+ * as such. */
 static inline timing_060_ran timing_060_run_batch(timing_060 *t, const timing_060_record *records, uint64_t count,
-                                                  uint32_t *costs, uint64_t places) {
+                                                  uint32_t *costs, uint64_t places, uint8_t *answers,
+                                                  uint64_t answers_room) {
     timing_060_words s = {records, count > UINT64_MAX / 4 ? UINT64_MAX : count * 4};
     timing_060_words_mut c = {costs, places};
-    return timing_060_run_batch_at(s, c, t->tags, t->state, t->window, t->profile);
+    timing_060_bytes_mut a = {answers, answers_room};
+    return timing_060_run_batch_at(s, c, t->tags, t->state, t->window, t->profile, a);
 }
 
 /* The state's image, 1,294 bytes of kind 17: `count` is how many were written. */

@@ -2,25 +2,34 @@
 //!
 //! [`Timing060`] is the timing state that an emulator keeps beside its CPU: a branch cache of 256 slots and the pairing
 //! window, in a [`Profile`] that is chosen at start. Each retired instruction goes through [`Timing060::retire`], which
-//! answers its clocks. The work is done by a library whose every function is proved to meet its contract,
-//! libtiming_060.a; this crate adds the calls, and itself reads only the head ([`Timing060::head`]). It cannot be
-//! misused: every state, instruction, trace and image has an answer or a [`Refusal`].
+//! gives its clocks and what the branch cache predicted, an [`Answer`]. The work is done by a library whose every
+//! function is proved to meet its contract, libtiming_060.a; this crate adds the calls, and itself only takes the two
+//! numbers of a step apart and reads the head ([`Timing060::head`]). It cannot be misused: every state, instruction,
+//! trace and image has a result or a [`Refusal`].
 //!
 //! The library is for x86-64 Linux. On other targets this crate is checked and documented, but nothing can be linked.
 //!
 //! ```
-//! use timing_060::{Flags, Profile, Retirement, Timing060};
+//! use timing_060::{Answer, Flags, Profile, Retired, Retirement, Timing060};
 //!
 //! let mut timing = Timing060::new(Profile::Crate);
 //! let flags = Flags { flowed: false, cached: true, ess: true, ebc: true, supervisor: true };
-//! let clocks = timing.retire(Retirement { op: 0x7000, flags, ppc: 0x1000, pc: 0x1002, raw: 4 });
-//! assert_eq!(clocks, 1);
+//! let moveq = timing.retire(Retirement { op: 0x7000, flags, ppc: 0x1000, pc: 0x1002, raw: 4 });
+//! assert_eq!(moveq, Retired { clocks: 1, answer: Answer::NotConsulted });
+//!
+//! // a branch that meets a cold slot, and the next time is predicted
+//! let flags = Flags { flowed: true, ..flags };
+//! let branch = Retirement { op: 0x60FE, flags, ppc: 0x1002, pc: 0x1002, raw: 10 };
+//! assert_eq!(timing.retire(branch), Retired { clocks: 7, answer: Answer::Miss });
+//! assert_eq!(timing.retire(branch), Retired { clocks: 1, answer: Answer::PredictedTaken });
 //! ```
 #![warn(missing_docs)]
 
+mod answers;
 mod refusals;
 mod sys;
 
+pub use answers::Answer;
 pub use refusals::{Refusal, Refused};
 
 /// The most bytes of a trace.
@@ -31,6 +40,8 @@ pub const BATCH_RECORDS: usize = 1_048_576;
 pub const RECORD_BYTES: usize = 20;
 /// The room that a retirement of a trace needs for its clocks.
 pub const COST_BYTES: usize = 4;
+/// The room that a retirement needs for its answer, in a batch, too.
+pub const ANSWER_BYTES: usize = 1;
 /// A state as an image, of kind 17.
 pub const IMAGE_BYTES: usize = 1294;
 /// An image of kind 16, which is still read.
@@ -84,6 +95,15 @@ pub struct Retirement {
     pub pc: u32,
     /// The handler's 68000 count.
     pub raw: i32,
+}
+
+/// What a retirement gives.
+#[derive(Clone, Copy, Debug, PartialEq, Eq)]
+pub struct Retired {
+    /// Its clocks.
+    pub clocks: u32,
+    /// What the branch cache predicted of it.
+    pub answer: Answer,
 }
 
 /// A retired instruction as a batch holds it: 16 bytes, as in a trace.
@@ -176,12 +196,14 @@ impl Timing060 {
         (open != 0).then_some(Head { op, address: u32::from(high) << 16 | u32::from(low) })
     }
 
-    /// One retired instruction: its clocks.
+    /// One retired instruction: its clocks, and what the branch cache predicted.
     #[inline]
-    pub fn retire(&mut self, r: Retirement) -> u32 {
+    pub fn retire(&mut self, r: Retirement) -> Retired {
         let (tags, state, window) = (&mut self.tags, &mut self.state, &mut self.window);
         let (profile, flags) = (self.profile as u32, r.flags.bits());
-        unsafe { sys::timing_060_retire_at(tags, state, window, profile, r.op, flags, r.ppc, r.pc, r.raw) }
+        let both = unsafe { sys::timing_060_retire_at(tags, state, window, profile, r.op, flags, r.ppc, r.pc, r.raw) };
+        let answer = Answer::of((both >> 32) as u8).expect("the library's answers are proved to be 0 to 3");
+        Retired { clocks: both as u32, answer }
     }
 
     /// The pipeline breaks: the pairing window is shut, and nothing else changes.
@@ -199,20 +221,34 @@ impl Timing060 {
         unsafe { sys::timing_060_clear_user_at(&mut self.state, &mut self.window) }
     }
 
-    /// Runs a trace of at most [`TRACE_BYTES`]: [`COST_BYTES`] of clocks, little-endian, for each retirement. Bytes
-    /// beyond the last cost stay. A flag bit above the five is refused: [`Refusal::Flag`].
-    pub fn run_trace(&mut self, trace: &[u8], costs: &mut [u8]) -> Result<Ran, Refused> {
-        let (s, c) = (sys::Shared::of(trace), sys::Lent::of(costs));
+    /// Runs a trace of at most [`TRACE_BYTES`]: for each retirement [`COST_BYTES`] of clocks, little-endian, and
+    /// [`ANSWER_BYTES`] of what the branch cache predicted, the [`Answer::number`]. Bytes beyond the last cost and the
+    /// last answer stay. A flag bit above the five is refused: [`Refusal::Flag`].
+    pub fn run_trace(&mut self, trace: &[u8], costs: &mut [u8], answers: &mut [u8]) -> Result<Ran, Refused> {
+        let (s, c, a) = (sys::Shared::of(trace), sys::Lent::of(costs), sys::Lent::of(answers));
         let (tags, state, window) = (&mut self.tags, &mut self.state, &mut self.window);
-        answer(unsafe { sys::timing_060_run_trace_at(s, c, tags, state, window, self.profile as u32) })
+        ran(unsafe { sys::timing_060_run_trace_at(s, c, tags, state, window, self.profile as u32, a) })
     }
 
-    /// Runs a batch of at most [`BATCH_RECORDS`]: a place for each record. Places beyond the last cost stay.
-    pub fn run_batch(&mut self, records: &[Record], costs: &mut [u32]) -> Result<Ran, Refused> {
+    /// Runs a batch of at most [`BATCH_RECORDS`]: for each record a place for its clocks, and [`ANSWER_BYTES`] for what
+    /// the branch cache predicted, the [`Answer::number`]. Places and bytes beyond the last stay.
+    ///
+    /// ```
+    /// use timing_060::{Answer, Flags, Profile, Record, Refused, Retirement, Timing060};
+    ///
+    /// let flags = Flags { flowed: true, cached: true, ess: true, ebc: true, supervisor: true };
+    /// let branch = Retirement { op: 0x60FE, flags, ppc: 0x1002, pc: 0x1002, raw: 10 };
+    /// let (mut costs, mut answers) = ([0; 2], [0; 2]);
+    /// Timing060::new(Profile::Crate).run_batch(&[Record::from(branch); 2], &mut costs, &mut answers)?;
+    /// assert_eq!(costs, [7, 1]);
+    /// assert_eq!(answers.map(Answer::of), [Some(Answer::Miss), Some(Answer::PredictedTaken)]);
+    /// # Ok::<(), Refused>(())
+    /// ```
+    pub fn run_batch(&mut self, records: &[Record], costs: &mut [u32], answers: &mut [u8]) -> Result<Ran, Refused> {
         let s = sys::Shared { at: records.as_ptr().cast(), count: (records.len() as u64).saturating_mul(4) };
-        let c = sys::Lent::of(costs);
+        let (c, a) = (sys::Lent::of(costs), sys::Lent::of(answers));
         let (tags, state, window) = (&mut self.tags, &mut self.state, &mut self.window);
-        answer(unsafe { sys::timing_060_run_batch_at(s, c, tags, state, window, self.profile as u32) })
+        ran(unsafe { sys::timing_060_run_batch_at(s, c, tags, state, window, self.profile as u32, a) })
     }
 
     /// The state as bytes, but for the profile: an image of kind 17.
@@ -228,7 +264,7 @@ impl Timing060 {
     pub fn from_image(image: &[u8], profile: Profile) -> Result<Self, Refused> {
         let mut t = Self::new(profile);
         let s = sys::Shared::of(image);
-        answer(unsafe { sys::timing_060_image_read_at(s, &mut t.tags, &mut t.state, &mut t.window) }).map(|_| t)
+        ran(unsafe { sys::timing_060_image_read_at(s, &mut t.tags, &mut t.state, &mut t.window) }).map(|_| t)
     }
 }
 
@@ -243,10 +279,10 @@ pub fn masks(op: u16, profile: Profile) -> Masks {
     Masks { uses: m.uses, defs: m.defs }
 }
 
-fn answer(ran: sys::HostRan) -> Result<Ran, Refused> {
-    if ran.refusal == 0 {
-        Ok(Ran { count: ran.count, total: ran.total })
+fn ran(r: sys::HostRan) -> Result<Ran, Refused> {
+    if r.refusal == 0 {
+        Ok(Ran { count: r.count, total: r.total })
     } else {
-        Err(Refused { refusal: Refusal::of(ran.refusal), place: ran.place })
+        Err(Refused { refusal: Refusal::of(r.refusal), place: r.place })
     }
 }

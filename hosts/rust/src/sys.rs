@@ -64,6 +64,7 @@ const _: () = {
 
 extern "C" {
     pub fn timing_060_fresh_at(tags: &mut Tags, state: &mut Slots, window: &mut Window);
+    /// The clocks in the low 32 bits, the cache's answer in the 32 above them.
     pub fn timing_060_retire_at(
         tags: &mut Tags,
         state: &mut Slots,
@@ -74,7 +75,7 @@ extern "C" {
         ppc: u32,
         pc: u32,
         raw: i32,
-    ) -> u32;
+    ) -> u64;
     pub fn timing_060_break_at(window: &mut Window);
     pub fn timing_060_clear_all_at(state: &mut Slots, window: &mut Window);
     pub fn timing_060_clear_user_at(state: &mut Slots, window: &mut Window);
@@ -87,6 +88,7 @@ extern "C" {
         state: &mut Slots,
         window: &mut Window,
         profile: u32,
+        answers: Lent<u8>,
     ) -> HostRan;
     pub fn timing_060_run_batch_at(
         records: Shared<u32>,
@@ -95,6 +97,7 @@ extern "C" {
         state: &mut Slots,
         window: &mut Window,
         profile: u32,
+        answers: Lent<u8>,
     ) -> HostRan;
     pub fn timing_060_image_write_at(tags: &Tags, state: &Slots, window: &Window, image: Lent<u8>) -> HostRan;
     pub fn timing_060_image_read_at(

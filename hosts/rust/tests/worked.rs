@@ -32,12 +32,82 @@ fn refused<T>(refusal: Refusal, place: u64) -> Result<T, Refused> {
     Err(Refused { refusal, place })
 }
 
+/// What the four retirements of the program give.
+fn retired() -> [Retired; 4] {
+    [(1, Answer::NotConsulted), (0, Answer::NotConsulted), (7, Answer::Miss), (1, Answer::PredictedTaken)]
+        .map(|(clocks, answer)| Retired { clocks, answer })
+}
+
 #[test]
 fn step_by_step() {
     for profile in PROFILES {
         let mut t = Timing060::new(profile);
-        assert_eq!(program().map(|r| t.retire(r)), [1, 0, 7, 1]);
+        assert_eq!(program().map(|r| t.retire(r)), retired());
     }
+}
+
+/// BNE as it is met, each time with its clocks and what the cache predicted: in steps, in a batch and in a trace.
+#[test]
+fn answers() {
+    let kept = Retirement { op: 0x66FC, flags: CACHED, ppc: 0x1008, pc: 0x100A, raw: 8 };
+    let taken = Retirement { flags: Flags { flowed: true, ..CACHED }, pc: 0x1006, raw: 10, ..kept };
+    let other = Retirement { ppc: 0x1208, pc: 0x1206, ..taken }; // shares the slot
+    let off = Retirement { flags: Flags { ebc: false, ..taken.flags }, ..taken };
+    let uncached = Retirement { flags: Flags { cached: false, ..taken.flags }, ..taken };
+    let meetings = [
+        (off, 7, Answer::NotConsulted),
+        (uncached, 7, Answer::NotConsulted),
+        (kept, 1, Answer::Miss),
+        (taken, 7, Answer::Miss),
+        (taken, 1, Answer::PredictedTaken),
+        (kept, 7, Answer::PredictedTaken),
+        (kept, 7, Answer::PredictedTaken),
+        (kept, 1, Answer::PredictedNotTaken),
+        (taken, 7, Answer::PredictedNotTaken),
+        (other, 7, Answer::Miss),
+        (taken, 7, Answer::Miss),
+        (program()[0], 1, Answer::NotConsulted),
+        (taken, 0, Answer::PredictedTaken),
+    ];
+    let records = meetings.map(|(r, _, _)| Record::from(r));
+    let trace: Vec<u8> = meetings.iter().flat_map(|(r, _, _)| bytes_of(r)).collect();
+    let numbers = meetings.map(|(_, _, answer)| answer.number());
+    let clocks = meetings.map(|(_, clocks, _)| clocks);
+    for profile in PROFILES {
+        let mut t = Timing060::new(profile);
+        for (i, (r, clocks, answer)) in meetings.into_iter().enumerate() {
+            assert_eq!(t.retire(r), Retired { clocks, answer }, "{i}");
+        }
+        let (mut costs, mut answers) = ([9; 13], [9; 13]);
+        let mut batch = Timing060::new(profile);
+        assert!(batch.run_batch(&records, &mut costs, &mut answers).is_ok());
+        assert_eq!((&batch, costs, answers), (&t, clocks, numbers));
+        let (mut bytes, mut answers) = ([9; 13 * COST_BYTES], [9; 13 * ANSWER_BYTES]);
+        let mut run = Timing060::new(profile);
+        assert!(run.run_trace(&trace, &mut bytes, &mut answers).is_ok());
+        assert_eq!((&run, answers), (&t, numbers));
+        assert_eq!(bytes.to_vec(), clocks.iter().flat_map(|c: &u32| c.to_le_bytes()).collect::<Vec<u8>>());
+        t.clear_all();
+        assert_eq!(t.retire(taken), Retired { clocks: 7, answer: Answer::Miss });
+    }
+}
+
+/// A retirement as a trace has it.
+fn bytes_of(r: &Retirement) -> Vec<u8> {
+    let Flags { flowed, cached, ess, ebc, supervisor } = r.flags;
+    let flags = [flowed, cached, ess, ebc, supervisor].iter().rev().fold(0u16, |bits, &flag| bits << 1 | flag as u16);
+    let numbers = [&[16, 0, 1, 0][..], &r.op.to_le_bytes(), &flags.to_le_bytes()].concat();
+    [&numbers[..], &r.ppc.to_le_bytes(), &r.pc.to_le_bytes(), &r.raw.to_le_bytes()].concat()
+}
+
+/// Numbers and words of the answers.
+#[test]
+fn answers_as_bytes() {
+    let all = [Answer::NotConsulted, Answer::Miss, Answer::PredictedNotTaken, Answer::PredictedTaken];
+    assert_eq!(all.map(Answer::number), [0, 1, 2, 3]);
+    assert_eq!(all.map(|answer| Answer::of(answer.number())), all.map(Some));
+    assert!((4..=255).all(|byte| Answer::of(byte).is_none()));
+    assert_eq!(all.map(|a| a.to_string()), ["not consulted", "miss", "predicted not taken", "predicted taken"]);
 }
 
 /// Only the crate's profile pairs behind EOR: in steps, from an image, in a batch and in a trace.
@@ -50,18 +120,18 @@ fn over_paired() {
     for (profile, second) in PROFILES.into_iter().zip([0, 1]) {
         let fresh = Timing060::new(profile);
         let mut t = fresh.clone();
-        assert_eq!(t.retire(OVER_PAIRED[0]), 1);
+        assert_eq!(t.retire(OVER_PAIRED[0]).clocks, 1);
         let mut read = Timing060::from_image(&t.image(), profile).unwrap();
         assert_eq!(read, t);
-        assert_eq!((t.retire(OVER_PAIRED[1]), read.retire(OVER_PAIRED[1])), (second, second));
+        assert_eq!([&mut t, &mut read].map(|state| state.retire(OVER_PAIRED[1]).clocks), [second, second]);
         t.break_pipeline();
         t.clear_all();
         t.clear_user();
         assert_eq!((t.profile(), read.profile()), (profile, profile));
         let ran = Ok(Ran { count: 2, total: 1 + u64::from(second) });
-        let (mut costs, mut bytes) = ([9; 2], [9; 2 * COST_BYTES]);
-        assert_eq!(fresh.clone().run_batch(&records, &mut costs), ran);
-        assert_eq!(fresh.clone().run_trace(&trace, &mut bytes), ran);
+        let (mut costs, mut bytes, mut answers) = ([9; 2], [9; 2 * COST_BYTES], [9; 2]);
+        assert_eq!(fresh.clone().run_batch(&records, &mut costs, &mut answers), ran);
+        assert_eq!(fresh.clone().run_trace(&trace, &mut bytes, &mut answers), ran);
         assert_eq!((costs, bytes), ([1, second], [1, 0, 0, 0, second as u8, 0, 0, 0]));
     }
     assert_eq!(Timing060::default(), Timing060::new(Profile::Crate));
@@ -75,7 +145,7 @@ fn image_in_the_other_profile() {
         let mut t = Timing060::new(head);
         t.retire(OVER_PAIRED[0]);
         let mut t = Timing060::from_image(&t.image(), follower).unwrap();
-        assert_eq!((t.profile(), t.retire(OVER_PAIRED[1])), (follower, second));
+        assert_eq!((t.profile(), t.retire(OVER_PAIRED[1]).clocks), (follower, second));
     }
 }
 
@@ -83,38 +153,48 @@ fn image_in_the_other_profile() {
 fn batch_and_places_beyond() {
     let mut t = Timing060::new(Profile::Crate);
     let records = program().map(Record::from);
-    let mut costs = [9; 6];
-    assert_eq!(t.run_batch(&records, &mut costs), Ok(Ran { count: 4, total: 9 }));
-    assert_eq!(costs, [1, 0, 7, 1, 9, 9]);
-    let before = t.clone();
-    assert_eq!(t.run_batch(&records, &mut costs[..3]), refused(Refusal::Room, 0));
-    assert_eq!((&t, costs), (&before, [1, 0, 7, 1, 9, 9]));
-    assert_eq!(t.run_batch(&[], &mut []), Ok(Ran { count: 0, total: 0 }));
+    let (mut costs, mut answers) = ([9; 6], [9; 6]);
+    assert_eq!(t.run_batch(&records, &mut costs, &mut answers), Ok(Ran { count: 4, total: 9 }));
+    assert_eq!((costs, answers), ([1, 0, 7, 1, 9, 9], [0, 0, 1, 3, 9, 9]));
+    let before = (t.clone(), costs, answers);
+    assert_eq!(t.run_batch(&records, &mut costs[..3], &mut answers), refused(Refusal::Room, 0));
+    assert_eq!(t.run_batch(&records, &mut costs, &mut answers[..3]), refused(Refusal::Room, 0));
+    assert_eq!(t.run_batch(&records, &mut costs, &mut []), refused(Refusal::Room, 0));
     let many = vec![records[0]; BATCH_RECORDS + 1];
-    assert_eq!(t.run_batch(&many, &mut costs), refused(Refusal::Oversized, 0));
+    assert_eq!(t.run_batch(&many, &mut costs, &mut answers), refused(Refusal::Oversized, 0));
+    assert_eq!(t.run_batch(&[], &mut [], &mut []), Ok(Ran { count: 0, total: 0 }));
+    assert_eq!(t.run_batch(&[], &mut costs, &mut answers), Ok(Ran { count: 0, total: 0 }));
+    assert_eq!((t, costs, answers), before);
 }
 
 #[test]
 fn trace_and_refusals() {
     let mut t = Timing060::new(Profile::Crate);
-    let mut costs = [0xAA; 4 * COST_BYTES + 1];
-    assert_eq!(t.run_trace(&TRACE, &mut costs), Ok(Ran { count: 4, total: 9 }));
-    let all = [1, 0, 0, 0, 0, 0, 0, 0, 7, 0, 0, 0, 1, 0, 0, 0, 0xAA];
-    assert_eq!(costs, all);
-    let before = t.clone();
-    assert_eq!(t.run_trace(&vec![0; TRACE_BYTES + 1], &mut costs), refused(Refusal::Oversized, 0));
-    assert_eq!(t.run_trace(&TRACE[..23], &mut costs), refused(Refusal::Remainder, 20));
+    let (mut costs, mut answers) = ([0xAA; 4 * COST_BYTES + 1], [0xAA; 4 * ANSWER_BYTES + 1]);
+    assert_eq!(t.run_trace(&TRACE, &mut costs, &mut answers), Ok(Ran { count: 4, total: 9 }));
+    assert_eq!(costs, [1, 0, 0, 0, 0, 0, 0, 0, 7, 0, 0, 0, 1, 0, 0, 0, 0xAA]);
+    assert_eq!(answers, [0, 0, 1, 3, 0xAA]);
+    let before = (t.clone(), costs, answers);
     let with = |at: usize, byte: u8| {
         let mut trace = TRACE;
         trace[at] = byte;
         trace
     };
-    assert_eq!(t.run_trace(&with(22, 5), &mut costs), refused(Refusal::WrongKind, 20));
-    assert_eq!(t.run_trace(&with(40, 15), &mut costs), refused(Refusal::WrongLength, 40));
-    assert_eq!(t.run_trace(&TRACE[..79], &mut costs), refused(Refusal::Cut, 60));
-    assert_eq!(t.run_trace(&with(26, 0x3E), &mut costs), refused(Refusal::Flag, 20));
-    assert_eq!(t.run_trace(&TRACE, &mut costs[..15]), refused(Refusal::Room, 80));
-    assert_eq!((t, costs), (before, all));
+    // the room is looked at last
+    for room in [0, 4] {
+        let mut refusal = |trace: &[u8]| t.run_trace(trace, &mut costs, &mut answers[..room]);
+        assert_eq!(refusal(&vec![0; TRACE_BYTES + 1]), refused(Refusal::Oversized, 0));
+        assert_eq!(refusal(&TRACE[..23]), refused(Refusal::Remainder, 20));
+        assert_eq!(refusal(&with(22, 5)), refused(Refusal::WrongKind, 20));
+        assert_eq!(refusal(&with(40, 15)), refused(Refusal::WrongLength, 40));
+        assert_eq!(refusal(&TRACE[..79]), refused(Refusal::Cut, 60));
+        assert_eq!(refusal(&with(26, 0x3E)), refused(Refusal::Flag, 20));
+    }
+    assert_eq!(t.run_trace(&TRACE, &mut costs[..15], &mut answers), refused(Refusal::Room, 80));
+    assert_eq!(t.run_trace(&TRACE, &mut costs, &mut answers[..3]), refused(Refusal::Room, 80));
+    assert_eq!(t.run_trace(&TRACE, &mut costs, &mut []), refused(Refusal::Room, 80));
+    assert_eq!(t.run_trace(&[], &mut [], &mut []), Ok(Ran { count: 0, total: 0 }));
+    assert_eq!((t, costs, answers), before);
 }
 
 /// MOVEQ is the head through clears and images; what does not pair is the next head, and what shuts the window leaves
@@ -151,16 +231,16 @@ fn heads() {
 /// Runs leave the head of their last retirement, and a refused one leaves the old head.
 #[test]
 fn heads_of_runs() {
-    let (mut costs, mut bytes) = ([9; 1], [9; COST_BYTES]);
+    let (mut costs, mut bytes, mut answers) = ([9; 1], [9; COST_BYTES], [9; 4]);
     let head = Some(Head { op: 0x7000, address: 0x1000 });
     let mut t = Timing060::new(Profile::Crate);
-    assert!(t.run_batch(&program().map(Record::from)[..1], &mut costs).is_ok());
+    assert!(t.run_batch(&program().map(Record::from)[..1], &mut costs, &mut answers).is_ok());
     assert_eq!(t.head(), head);
-    assert!(t.run_batch(&program().map(Record::from), &mut costs).is_err());
-    assert!(t.run_trace(&TRACE, &mut bytes).is_err());
+    assert!(t.run_batch(&program().map(Record::from), &mut costs, &mut answers).is_err());
+    assert!(t.run_trace(&TRACE, &mut bytes, &mut answers).is_err());
     assert_eq!(t.head(), head);
     t.break_pipeline();
-    assert!(t.run_trace(&TRACE[..RECORD_BYTES], &mut bytes).is_ok());
+    assert!(t.run_trace(&TRACE[..RECORD_BYTES], &mut bytes, &mut answers).is_ok());
     assert_eq!(t.head(), head);
 }
 
