@@ -2,7 +2,8 @@
 //! and their ratio.
 //!
 //! The Rust has neither batch nor trace run: for a batch it steps over the records, for a trace run it reads each
-//! record's bytes and steps.
+//! record's bytes and steps. Nor does it say what its branch cache predicted: that the port alone writes, a byte a
+//! retirement.
 #![allow(dead_code, unexpected_cfgs)]
 
 mod core060 {
@@ -63,15 +64,20 @@ fn measure(trace: &Trace) {
     eprintln!("bench/run: measures the trace {}, {n} retirements", trace.name);
     let (mut costs, mut others) = (vec![0u32; n], vec![0u32; n]);
     let (mut bytes, mut more) = (vec![0u8; 4 * n], vec![0u8; 4 * n]);
-    let single = least(n, &mut || rust::single(&trace.records, &mut costs), &mut || library::single(&trace.records, &mut others));
+    // 9 is no answer: a byte that is not written shows
+    let [mut stepped, mut in_batch, mut in_run] = [(); 3].map(|_| vec![9u8; n]);
+    let single = least(n, &mut || rust::single(&trace.records, &mut costs), &mut || library::single(&trace.records, &mut others, &mut stepped));
     row("single", trace, single);
     assert!(costs == others, "single steps: the costs differ");
-    let batch = least(n, &mut || rust::single(&trace.records, &mut costs), &mut || library::batch(&trace.records, &mut others));
+    assert!(stepped.iter().all(|answer| *answer <= 3), "single steps: an answer is none");
+    let batch = least(n, &mut || rust::single(&trace.records, &mut costs), &mut || library::batch(&trace.records, &mut others, &mut in_batch));
     row("batch", trace, batch);
     assert!(costs == others, "batch: the costs differ");
-    let run = least(n, &mut || rust::trace(&trace.bytes, &mut bytes), &mut || library::trace(&trace.bytes, &mut more));
+    assert!(stepped == in_batch, "batch: the answers differ");
+    let run = least(n, &mut || rust::trace(&trace.bytes, &mut bytes), &mut || library::trace(&trace.bytes, &mut more, &mut in_run));
     row("trace", trace, run);
     assert!(bytes == more, "trace run: the costs differ");
+    assert!(stepped == in_run, "trace run: the answers differ");
     line(&format!("batch-to-trace {} {n} {:.2} {:.2} {:.2}", trace.name, run.1, batch.1, batch.1 / run.1));
 }
 

@@ -1,9 +1,9 @@
 //! The port against the Rust module, case by case, through the program `cases`.
 //!
-//! A case is 8 bytes (what, profile number and dirty, room 2, image length 2, length 2), a state image or nothing, and
-//! bytes; the answer is a line: WHAT VERDICT NUMBER PLACE COUNT TOTAL LENT STATE. The lent bytes hold a pattern
-//! beforehand, so that a byte written or not shows.
-use crate::core060::cpu::{CRATE, MENDED};
+//! A case is 10 bytes (what, profile number and dirty, room for costs 2, image length 2, length 2, room for answers 2),
+//! a state image or nothing, and bytes; it gives a line: WHAT VERDICT NUMBER PLACE COUNT TOTAL LENT ANSWERS STATE. Both
+//! lent runs hold a pattern beforehand, so that a byte written or not shows.
+use crate::core060::cpu::{ANSWERS, CRATE, MENDED};
 use crate::format::*;
 use std::fmt::Write as _;
 use std::io::{Read, Write};
@@ -43,7 +43,7 @@ pub struct Case {
     /// Of the profile, 0 to 127.
     number: u8,
     dirty: bool,
-    room: usize,
+    room: Room,
     image: Vec<u8>,
     bytes: Vec<u8>,
 }
@@ -55,14 +55,23 @@ const BATCH: u8 = 4;
 const SLICE: u8 = 5;
 const BREAK: u8 = 6;
 
-// What a run by a profile gives: the verdict, the count and the total. The costs go into the lent bytes.
-fn ran(profile: u32, events: Result<Vec<Event>, Refused>, lent: &mut [u8], state: &mut State) -> String {
+const NO_ROOM: Room = Room { costs: 0, answers: 0 };
+
+// What a run by a profile gives: the verdict, the count and the total. Costs and answers go into what is lent for them.
+fn ran(
+    profile: u32,
+    events: Result<Vec<Event>, Refused>,
+    costs: &mut [u8],
+    answers: &mut [u8],
+    state: &mut State,
+) -> String {
     let (mut count, mut total) = (0, 0u64);
     match events {
         Err((n, p)) => format!("refused {n} {p} 0 0"),
         Ok(events) => {
-            for cost in events.iter().filter_map(|e| step(profile, state, e)) {
-                lent[4 * count..4 * count + 4].copy_from_slice(&(cost as u32).to_le_bytes());
+            for Paid { cost, answer } in events.iter().filter_map(|e| step(profile, state, e)) {
+                costs[4 * count..4 * count + 4].copy_from_slice(&(cost as u32).to_le_bytes());
+                answers[count] = answer;
                 count += 1;
                 total += cost as u64;
             }
@@ -71,19 +80,44 @@ fn ran(profile: u32, events: Result<Vec<Event>, Refused>, lent: &mut [u8], state
     }
 }
 
+// What a lent run holds beforehand.
+fn pattern(bytes: usize) -> Vec<u8> {
+    (0..bytes).map(|i| (i * 7 + 3) as u8).collect()
+}
+
 impl Case {
+    // A run of events, of a batch only those that retire, which is lent just enough.
+    fn run(what: u8, number: u8, dirty: bool, image: &[u8], events: &[Event]) -> Self {
+        let (each, header) = if what == TRACE { (4, 0) } else { (1, 4) };
+        let read = events.iter().filter(|e| what == TRACE || matches!(e, Event::Retired(_)));
+        let bytes = read.flat_map(|e| record(e)[header..].to_vec()).collect();
+        let n = retirements(events);
+        Case { what, number, dirty, room: Room { costs: each * n, answers: n }, image: image.to_vec(), bytes }
+    }
+
+    // The same, lent so much more or less.
+    fn lent(mut self, costs: isize, answers: isize) -> Self {
+        self.room.costs = self.room.costs.saturating_add_signed(costs);
+        self.room.answers = self.room.answers.saturating_add_signed(answers);
+        self
+    }
+
     fn encode(&self, out: &mut Vec<u8>) {
         out.push(self.what);
         out.push(self.number << 1 | self.dirty as u8);
-        out.extend((self.room as u16).to_le_bytes());
-        out.extend((self.image.len() as u16).to_le_bytes());
-        out.extend((self.bytes.len() as u16).to_le_bytes());
+        for n in [self.room.costs, self.image.len(), self.bytes.len(), self.room.answers] {
+            out.extend((n as u16).to_le_bytes());
+        }
         out.extend(&self.image);
         out.extend(&self.bytes);
     }
 
     fn batch(&self) -> bool {
         self.what == BATCH || self.what == SLICE
+    }
+
+    fn runs(&self) -> bool {
+        self.what == TRACE || self.batch()
     }
 
     // The profile that the number means, as a host passes it.
@@ -110,21 +144,21 @@ impl Case {
         state
     }
 
-    // Of a run by a profile the costs, none where it is refused, and the state that it leaves.
-    fn stepped(&self, profile: u32) -> (Vec<i32>, State) {
+    // Of a run by a profile what its retirements give, nothing where it is refused, and the state that it leaves.
+    fn stepped(&self, profile: u32) -> (Vec<Paid>, State) {
         let mut state = self.start();
-        let costs = self.events().unwrap_or_default().iter().filter_map(|e| step(profile, &mut state, e)).collect();
-        (costs, state)
+        let paid = self.events().unwrap_or_default().iter().filter_map(|e| step(profile, &mut state, e)).collect();
+        (paid, state)
     }
 
-    fn costs(&self, profile: u32) -> Vec<i32> {
+    fn paid(&self, profile: u32) -> Vec<Paid> {
         self.stepped(profile).0
     }
 
-    // What the port must answer.
+    // The line that the port must print. Answers are lent to runs alone, whatever the case says.
     fn expected(&self) -> String {
-        let bytes = if self.batch() { 4 * self.room } else { self.room };
-        let mut lent: Vec<u8> = (0..bytes).map(|i| (i * 7 + 3) as u8).collect();
+        let mut lent = pattern(if self.batch() { 4 * self.room.costs } else { self.room.costs });
+        let mut answers = pattern(self.room.answers);
         let mut state = self.start();
         match self.what {
             TRACE | BATCH | SLICE => {
@@ -133,24 +167,24 @@ impl Case {
                     BATCH => "batch",
                     _ => "slice",
                 };
-                let gave = ran(self.profile(), self.events(), &mut lent, &mut state);
-                format!("{what} {gave} {} {}", hex(&lent), shown(&state))
+                let gave = ran(self.profile(), self.events(), &mut lent, &mut answers, &mut state);
+                format!("{what} {gave} {} {} {}", hex(&lent), hex(&answers), shown(&state))
             }
             BREAK => {
                 step(self.profile(), &mut state, &Event::Break);
-                format!("break accepted 0 0 0 0 - {}", shown(&state))
+                format!("break accepted 0 0 0 0 - - {}", shown(&state))
             }
             READ => match read_image(&self.bytes) {
-                Err((n, p)) => format!("read refused {n} {p} 0 0 - {}", shown(&State::default())),
-                Ok(state) => format!("read accepted 0 0 0 0 - {}", shown(&state)),
+                Err((n, p)) => format!("read refused {n} {p} 0 0 - - {}", shown(&State::default())),
+                Ok(state) => format!("read accepted 0 0 0 0 - - {}", shown(&state)),
             },
             _ => {
                 let image = write_image(&state);
-                if self.room < IMAGE {
-                    format!("write refused 7 0 0 0 {} -", hex(&lent))
+                if self.room.costs < IMAGE {
+                    format!("write refused 7 0 0 0 {} - -", hex(&lent))
                 } else {
                     lent[..IMAGE].copy_from_slice(&image);
-                    format!("write accepted 0 0 {IMAGE} 0 {} -", hex(&lent))
+                    format!("write accepted 0 0 {IMAGE} 0 {} - -", hex(&lent))
                 }
             }
         }
@@ -257,14 +291,38 @@ fn raw(rng: &mut Random) -> i32 {
     }
 }
 
+// Of the styles of a run, by its addresses, the last has branches for the most part.
+const STYLES: u64 = 5;
+const BRANCHES: u64 = 4;
+
+// A branch in one of four slots, now and then under another tag, the odd address among them. Each slot is mostly taken
+// or mostly not, so that counters go from end to end.
+fn branch(rng: &mut Random) -> Retirement {
+    let even = 0x2000 + 2 * rng.below(4) as u32;
+    let ppc = even + rng.pick(&[0, 0, 0, 0, 0, 0, 0, 0, 0, 1, 512, 1024]);
+    let taken = (even & 2 == 0) != rng.one_in(3);
+    let dbcc = rng.one_in(3);
+    let op = match dbcc {
+        true => 0x50C8 | (rng.below(16) << 8) as u16 | rng.below(8) as u16,
+        false => 0x6000 | rng.below(0x1000) as u16,
+    };
+    let flowed = if dbcc { rng.below(2) } else { taken as u64 };
+    let flags = flowed | if rng.one_in(4) { rng.below(16) << 1 } else { 0x0E | rng.below(2) << 4 };
+    let pc = if taken { ppc - 2 * rng.below(16) as u32 } else { ppc + 4 };
+    Retirement { op, flags: flags as u16, ppc, pc, raw: raw(rng) }
+}
+
 fn random_retirement(rng: &mut Random, number: u8, style: u64) -> Retirement {
+    if style == BRANCHES && !rng.one_in(4) {
+        return branch(rng);
+    }
     let ppc = match style {
         // all of the address space
         0 => rng.next() as u32,
         // a few branches, so that the cache is trained
         1 => 0x1000 + 2 * rng.below(12) as u32,
         // slots that alias: the same low bits under different tags
-        2 => 0x2000 + 512 * rng.below(6) as u32 + 2 * rng.below(3) as u32,
+        2 | BRANCHES => 0x2000 + 512 * rng.below(6) as u32 + 2 * rng.below(3) as u32,
         // near the end of the address space, where ppc + 4 wraps
         _ => 0xFFFF_FFF0u32.wrapping_add(2 * rng.below(12) as u32),
     };
@@ -293,17 +351,17 @@ fn realistic(rng: &mut Random, number: u8, events: &mut Vec<Event>, turns: u64) 
 
 fn events(rng: &mut Random, number: u8, size: u64) -> Vec<Event> {
     let mut events = Vec::new();
-    let style = rng.below(4);
+    let style = rng.below(STYLES);
     while (events.len() as u64) < size {
         match rng.below(40) {
             0 => events.push(Event::Break),
             1 if rng.one_in(4) => events.push(Event::ClearAll),
-            2 | 3 => events.push(Event::ClearUser),
+            2 | 3 if style != BRANCHES || rng.one_in(4) => events.push(Event::ClearUser),
             4 => {
                 let turns = 1 + rng.below(9);
                 realistic(rng, number, &mut events, turns)
             }
-            _ if number != 0 && rng.one_in(2) => {
+            _ if number != 0 && style != BRANCHES && rng.one_in(2) => {
                 let row = rng.below(ROWS);
                 pair(rng, &mut events, row)
             }
@@ -317,11 +375,15 @@ fn events(rng: &mut Random, number: u8, size: u64) -> Vec<Event> {
 fn image_with(rng: &mut Random, open: bool) -> Vec<u8> {
     let mut s = vec![0x0A, 0x05, 17, 0];
     for i in 0..256u32 {
-        // tags that hit, tags of other slots, and any tag
-        let tag = match rng.below(4) {
+        // any tag, tags of other slots, and tags that hit: those of the styles 1, 2 and the branches, 3, and of loops
+        let tag = match rng.below(8) {
             0 => rng.next() as u32,
             1 => 0x1000 + 2 * rng.below(12) as u32,
-            _ => 2 * i + 512 * rng.below(9) as u32,
+            2 => 2 * i + 512 * rng.below(9) as u32,
+            3 => 2 * i + 0x1000,
+            4 | 5 => 2 * i + 0x2000 + 512 * rng.below(3) as u32,
+            6 => 2 * i + 0xFFFF_FE00,
+            _ => 2 * i + 0x4000 + 512 * rng.below(5) as u32,
         };
         s.extend(tag.to_le_bytes());
     }
@@ -372,14 +434,43 @@ fn retirements(events: &[Event]) -> usize {
     events.iter().filter(|e| matches!(e, Event::Retired(_))).count()
 }
 
-fn trace_case(rng: &mut Random, number: u8, size: u64) -> Case {
+// Just enough, some more, or much more.
+fn enough(rng: &mut Random, needed: usize) -> usize {
+    match rng.below(16) {
+        0..=6 => needed,
+        7 => needed + 100 + rng.below(400) as usize,
+        _ => needed + rng.below(9) as usize,
+    }
+}
+
+// Less than n places of so much each: none, any number, or one place short.
+fn too_little(rng: &mut Random, each: usize, n: usize) -> usize {
+    match rng.below(4) {
+        _ if n == 0 => 0,
+        0 => 0,
+        1 => rng.below((each * n) as u64) as usize,
+        _ => each * n - 1 - rng.below(each as u64) as usize,
+    }
+}
+
+// What is lent for n retirements whose costs take so much each: one in so many is short of costs, answers or both.
+fn room(rng: &mut Random, each: usize, n: usize, short: u64) -> Room {
+    let short = if rng.one_in(short) { 1 + rng.below(3) } else { 0 };
+    let costs = if short & 1 != 0 { too_little(rng, each, n) } else { enough(rng, each * n) };
+    let answers = if short & 2 != 0 { too_little(rng, 1, n) } else { enough(rng, n) };
+    Room { costs, answers }
+}
+
+// Where no answers are lent the case says any number.
+fn no_answers(rng: &mut Random, costs: usize) -> Room {
+    Room { costs, answers: rng.pick(&[0, 0, 1, 300, 65_535]) }
+}
+
+fn trace_case(rng: &mut Random, number: u8, size: u64, short: u64) -> Case {
     let events = events(rng, number, size);
-    let bytes: Vec<u8> = events.iter().flat_map(record).collect();
-    let needed = 4 * retirements(&events);
-    let short = rng.one_in(20);
-    let room = if short { needed.saturating_sub(1 + rng.below(4) as usize) } else { needed + rng.below(9) as usize };
+    let room = room(rng, 4, retirements(&events), short);
     let image = if rng.one_in(2) { image(rng) } else { Vec::new() };
-    Case { what: TRACE, number, dirty: rng.one_in(8), room, image, bytes }
+    Case { room, ..Case::run(TRACE, number, rng.one_in(8), &image, &events) }
 }
 
 /// Gives the number of a case's profile.
@@ -389,13 +480,16 @@ pub fn cases(rng: &mut Random, scale: u64, numbers: Numbers) -> Vec<Case> {
     let mut all = Vec::new();
     for _ in 0..25 * scale {
         let (number, size) = (numbers(rng), rng.pick(&[0, 1, 2, 3, 40, 500, 1000]));
-        all.push(trace_case(rng, number, size));
+        all.push(trace_case(rng, number, size, 20));
     }
     for _ in 0..100 * scale {
         let (number, size) = (numbers(rng), rng.below(7));
-        let mut case = trace_case(rng, number, size);
+        // what is refused for a record is so with short runs, too
+        let mut case = trace_case(rng, number, size, 4);
         damage(rng, &mut case.bytes);
-        case.image.clear();
+        if !rng.one_in(16) {
+            case.image.clear();
+        }
         all.push(case);
     }
     for _ in 0..100 * scale {
@@ -408,16 +502,18 @@ pub fn cases(rng: &mut Random, scale: u64, numbers: Numbers) -> Vec<Case> {
         } else if rng.one_in(2) {
             damage(rng, &mut bytes);
         }
-        all.push(Case { what: READ, number: numbers(rng), dirty: false, room: 0, image: Vec::new(), bytes });
+        let (number, room) = (numbers(rng), no_answers(rng, 0));
+        all.push(Case { what: READ, number, dirty: false, room, image: Vec::new(), bytes });
     }
     for _ in 0..3 * scale {
-        let (number, room) = (numbers(rng), rng.pick(&[0, 1, 1287, 1288, 1293, 1294, 1295, 1300]));
+        let (number, costs) = (numbers(rng), rng.pick(&[0, 1, 1287, 1288, 1293, 1294, 1295, 1300]));
+        let room = no_answers(rng, costs);
         all.push(Case { what: WRITE, number, dirty: rng.one_in(3), room, image: image(rng), bytes: Vec::new() });
     }
     all
 }
 
-// The retirements among events, as a batch: mostly with just enough room, one short, or more.
+// The retirements among events, as a batch.
 fn batch_case(rng: &mut Random, number: u8, events: &[Event]) -> Case {
     let mut bytes = Vec::new();
     for e in events {
@@ -431,12 +527,7 @@ fn batch_case(rng: &mut Random, number: u8, events: &[Event]) -> Case {
     if what == BATCH && rng.one_in(8) {
         bytes.extend((0..1 + rng.below(15)).map(|_| rng.next() as u8));
     }
-    let room = match rng.below(16) {
-        0 => needed.saturating_sub(1),
-        1 => rng.below(needed as u64 + 1) as usize,
-        2..=8 => needed,
-        _ => needed + rng.below(9) as usize,
-    };
+    let room = room(rng, 1, needed, 8);
     let image = if rng.one_in(2) { image(rng) } else { Vec::new() };
     Case { what, number, dirty: rng.one_in(4), room, image, bytes }
 }
@@ -449,7 +540,7 @@ pub fn batches(rng: &mut Random, scale: u64, numbers: Numbers) -> Vec<Case> {
         all.push(batch_case(rng, number, &events));
     }
     for _ in 0..25 * scale {
-        let (number, style) = (numbers(rng), rng.below(4));
+        let (number, style) = (numbers(rng), rng.below(STYLES));
         let events: Vec<Event> = (0..4).map(|_| Event::Retired(random_retirement(rng, number, style))).collect();
         all.push(batch_case(rng, number, &events));
     }
@@ -468,7 +559,8 @@ pub fn batches(rng: &mut Random, scale: u64, numbers: Numbers) -> Vec<Case> {
         let number = numbers(rng);
         let open = image_with(rng, true);
         let image = if rng.one_in(8) { Vec::new() } else { of_either_kind(rng, open) };
-        all.push(Case { what: BREAK, number, dirty: rng.one_in(4), room: 0, image, bytes: Vec::new() });
+        let room = no_answers(rng, 0);
+        all.push(Case { what: BREAK, number, dirty: rng.one_in(4), room, image, bytes: Vec::new() });
     }
     all
 }
@@ -484,6 +576,17 @@ fn worked() -> [Event; 4] {
     ]
 }
 
+// Each run lent nothing, one place short, just enough and more, and all of these with all.
+fn rooms() -> Vec<Case> {
+    let mut all = Vec::new();
+    for (what, costs) in [(TRACE, [-16, -1, 0, 5]), (BATCH, [-4, -1, 0, 3]), (SLICE, [-4, -1, 0, 3])] {
+        for (costs, answers) in costs.into_iter().flat_map(|c| [-4, -1, 0, 3].map(|a| (c, a))) {
+            all.push(Case::run(what, 0, false, &[], &worked()).lent(costs, answers));
+        }
+    }
+    all
+}
+
 // Batches and breaks at their limits: no record, room that is one short, just enough and more, from every kind of
 // window and of image.
 fn batch_limits() -> Vec<Case> {
@@ -494,22 +597,24 @@ fn batch_limits() -> Vec<Case> {
     let clean = [Vec::new(), open.clone(), old_image(&open), shut.clone()].map(|image| (false, image));
     let dirty = [open, old_image(&shut), Vec::new()].map(|image| (true, image));
     for (dirty, image) in clean.into_iter().chain(dirty) {
-        let case = |what, room, bytes: &[u8]| {
+        // lent just enough for whole records, and so much more or less
+        let case = |what, bytes: &[u8], costs, answers| {
+            let room = Room { costs: bytes.len() / 16, answers: bytes.len() / 16 };
             let (image, bytes) = (image.clone(), bytes.to_vec());
-            Case { what, number: 0, dirty, room, image, bytes }
+            Case { what, number: 0, dirty, room, image, bytes }.lent(costs, answers)
         };
-        for (room, bytes) in [(0, 0), (5, 0), (0, 15), (0, 16), (1, 31)] {
-            all.push(case(BATCH, room, &good[..bytes]));
+        for (bytes, costs, answers) in [(0, 0, 0), (0, 5, 3), (15, 0, 0), (16, -1, 0), (31, 0, 0)] {
+            all.push(case(BATCH, &good[..bytes], costs, answers));
         }
-        for room in [0, 3, 4, 5] {
-            all.extend([case(BATCH, room, &good), case(SLICE, room, &good)]);
+        for (costs, answers) in [(-4, 0), (0, -1), (0, 0), (1, 3)] {
+            all.extend([BATCH, SLICE].map(|what| case(what, &good, costs, answers)));
         }
-        // a lent run of structs: none, one, and 64 of them, with room that is one short, just enough and more
+        // a lent run of structs: none, one, and 64 of them
         let full: Vec<u8> = good.iter().copied().cycle().take(64 * 16).collect();
-        for (bytes, needed) in [(&good[..0], 0usize), (&good[..16], 1), (&full[..], 64)] {
-            all.extend([needed.saturating_sub(1), needed, needed + 3].map(|room| case(SLICE, room, bytes)));
-        }
-        all.push(case(BREAK, 0, &[]));
+        all.extend([(0, 0), (3, 2)].map(|(costs, answers)| case(SLICE, &[], costs, answers)));
+        all.extend([(-1, -1), (0, 0), (3, 2)].map(|(costs, answers)| case(SLICE, &good[..16], costs, answers)));
+        all.extend([(-1, 0), (0, -1), (0, 0), (3, 2)].map(|(costs, answers)| case(SLICE, &full, costs, answers)));
+        all.push(case(BREAK, &[], 0, 0));
     }
     all
 }
@@ -519,13 +624,17 @@ fn limits() -> Vec<Case> {
     let mut events = worked().to_vec();
     events.extend([Event::Break, Event::ClearAll, Event::ClearUser]);
     let good: Vec<u8> = events.iter().flat_map(record).collect();
-    let trace = |bytes, room| Case { what: TRACE, number: 0, dirty: false, room, image: Vec::new(), bytes };
-    let mut all = vec![trace(Vec::new(), 0), trace(Vec::new(), 5)];
-    all.extend([16, 20, 15, 0].map(|room| trace(good.clone(), room)));
+    let trace = |bytes: &[u8], (costs, answers)| {
+        let (image, bytes) = (Vec::new(), bytes.to_vec());
+        Case { what: TRACE, number: 0, dirty: false, room: Room { costs, answers }, image, bytes }
+    };
+    let mut all = vec![trace(&[], (0, 0)), trace(&[], (5, 3))];
+    all.extend([(16, 4), (20, 7), (15, 4), (16, 3), (0, 0)].map(|room| trace(&good, room)));
+    // a refusal of a record comes before that of a short run
     let mut changed = |change: &dyn Fn(&mut Vec<u8>)| {
         let mut bytes = good.clone();
         change(&mut bytes);
-        all.push(trace(bytes, 16));
+        all.extend([(16, 4), (16, 3), (15, 4), (0, 0)].map(|room| trace(&bytes, room)));
     };
     for left in 1..4 {
         changed(&|s| s.truncate(80 + left));
@@ -544,8 +653,17 @@ fn limits() -> Vec<Case> {
     let mut rng = Random::new(1);
     let (open, shut) = (image_with(&mut rng, true), image_with(&mut rng, false));
     all.extend(image_limits(&open, &shut));
-    for (room, image, bytes) in [(16, open, &good[..]), (3, shut.clone(), &good), (0, old_image(&shut), &[])] {
-        all.push(Case { what: TRACE, number: 0, dirty: true, room, image, bytes: bytes.to_vec() });
+    for (room, image, bytes) in [
+        ((16, 4), open.clone(), &good[..]),
+        ((3, 4), shut.clone(), &good),
+        ((16, 3), old_image(&open), &good),
+        ((0, 0), old_image(&shut), &[]),
+    ] {
+        all.push(Case { dirty: true, image, ..trace(bytes, room) });
+    }
+    // what is refused for a record, or for either run, leaves the state that it was given
+    for (room, bytes) in [((16, 3), &good[..79]), ((16, 3), &good), ((15, 4), &good)] {
+        all.push(Case { image: open.clone(), ..trace(bytes, room) });
     }
     all
 }
@@ -596,14 +714,15 @@ fn image_limits(open: &[u8], shut: &[u8]) -> Vec<Case> {
     for head in [[0; 6], [255; 6], [1, 2, 3, 4, 5, 6]] {
         images.push([&open[..1288], &head].concat());
     }
-    let read = |bytes| Case { what: READ, number: 0, dirty: false, room: 0, image: Vec::new(), bytes };
+    let read = |bytes| Case { what: READ, number: 0, dirty: false, room: NO_ROOM, image: Vec::new(), bytes };
     let mut all: Vec<Case> = images.into_iter().map(read).collect();
-    let mut write = |room, dirty, image: &[u8]| {
+    let mut write = |costs, dirty, image: &[u8]| {
+        let room = Room { costs, answers: 0 };
         all.push(Case { what: WRITE, number: 0, dirty, room, image: image.to_vec(), bytes: Vec::new() });
     };
-    for room in [0, 1287, 1288, 1293, 1294, 1295] {
-        write(room, false, open);
-        write(room, true, open);
+    for costs in [0, 1287, 1288, 1293, 1294, 1295] {
+        write(costs, false, open);
+        write(costs, true, open);
     }
     for image in [old_open, shut, old_shut, &[]] {
         write(IMAGE, false, image);
@@ -635,18 +754,16 @@ fn heads() -> Vec<Case> {
     let mut all = Vec::new();
     for (dirty, image) in starts {
         for events in &runs {
-            let case = |what, room, from: usize| {
-                let bytes = events.iter().flat_map(|e| record(e)[from..].to_vec()).collect();
-                Case { what, number: 0, dirty, room, image: image.clone(), bytes }
-            };
-            let needed = retirements(events);
-            all.push(case(TRACE, 4 * needed, 0));
-            if needed == events.len() {
-                all.extend([case(BATCH, needed, 4), case(SLICE, needed, 4)]);
+            let case = |what| Case::run(what, 0, dirty, &image, events);
+            all.push(case(TRACE));
+            if retirements(events) == events.len() {
+                all.extend([case(BATCH), case(SLICE)]);
             }
             // what is refused leaves the head that it was given
-            if needed == 3 {
-                all.extend([case(TRACE, 4 * needed - 1, 0), case(BATCH, needed - 1, 4), case(SLICE, needed - 1, 4)]);
+            if retirements(events) == 3 {
+                for (costs, answers) in [(-1, 0), (0, -1)] {
+                    all.extend([TRACE, BATCH, SLICE].map(|what| case(what).lent(costs, answers)));
+                }
             }
         }
     }
@@ -690,12 +807,79 @@ fn profiles() -> Vec<Case> {
     }
     let mut all = Vec::new();
     for (number, dirty) in [(0, false), (1, false), (1, true), (2, false), (127, true)] {
-        let case = |what, room, from: usize| {
-            let bytes = events.iter().flat_map(|e| record(e)[from..].to_vec()).collect();
-            Case { what, number, dirty, room, image: Vec::new(), bytes }
-        };
-        let needed = events.len();
-        all.extend([case(TRACE, 4 * needed, 0), case(BATCH, needed, 4), case(SLICE, needed, 4)]);
+        all.extend([TRACE, BATCH, SLICE].map(|what| Case::run(what, number, dirty, &[], &events)));
+    }
+    all
+}
+
+// Slots of images: the byte, and the bits in which the tag is not that of the branch there.
+const SET_SLOTS: [(u8, u32); 14] = [
+    (0x00, 0), // not valid
+    (0x03, 0),
+    (0xFB, 0),
+    (0x04, 0), // valid, a supervisor's, with each counter
+    (0x05, 0),
+    (0x06, 0),
+    (0x07, 0),
+    (0x0D, 0), // a user's
+    (0x0E, 0),
+    (0xF5, 0), // with bits that say nothing
+    (0xF6, 0),
+    (0x07, 0x0000_0200), // valid, of another branch
+    (0x06, 0x8000_0000),
+    (0x05, 0x0000_0001),
+];
+const SET_FROM: u32 = 0x3000; // slot 0
+
+// All that the branch cache answers, and what asks it and what does not, in traces and both batches: from a fresh state
+// and from images of both kinds with these slots, by the numbers of both profiles and of none.
+fn predictions() -> Vec<Case> {
+    let retired = |op, flags, ppc, pc| Event::Retired(Retirement { op, flags, ppc, pc, raw: 24 });
+    let bne = |flags, ppc| retired(0x66F0, flags, ppc, 0x1000);
+    let dbcc = |pc| retired(0x51C8, 0x1F, 0xFFFF_FFFE, pc);
+    let places = (0..SET_SLOTS.len() as u32).map(|i| SET_FROM + 2 * i);
+    // each of these slots twice: taken, and then not
+    let mut events: Vec<Event> = places.flat_map(|ppc| [bne(0x1F, ppc), bne(0x1E, ppc)]).collect();
+    let (ppc, alias) = (0x2082, 0x2282);
+    let other = |op, flags| retired(op, flags, ppc, ppc + 2);
+    events.extend([
+        bne(0x17, ppc), // EBC off
+        bne(0x1D, ppc), // not cached
+        bne(0x1E, ppc), // a miss, not taken: nothing is allocated
+        bne(0x1F, ppc), // a miss, taken
+        bne(0x1F, ppc), // predicted taken, rightly
+        bne(0x1E, ppc), // and wrongly, twice
+        bne(0x1E, ppc),
+        bne(0x1E, ppc),       // predicted not taken, rightly
+        bne(0x1F, ppc),       // and wrongly
+        bne(0x17, ppc),       // EBC off: nothing is learned
+        bne(0x1F, ppc),       // predicted not taken
+        other(0x7000, 0x1E),  // MOVEQ at the branch's address
+        other(0x4E75, 0x1F),  // RTS
+        bne(0x1F, ppc),       // predicted taken
+        bne(0x1F, alias),     // the same slot: a miss, taken
+        bne(0x1E, ppc),       // a miss
+        bne(0x1E, alias + 1), // the same slot at an odd address: a miss
+        bne(0x0F, ppc + 2),   // a user's miss, taken
+        bne(0x1E, ppc + 2),   // predicted taken to the supervisor, too
+        Event::ClearUser,
+        bne(0x0E, ppc + 2), // a miss again
+        Event::Break,
+        bne(0x0E, alias), // the supervisor's is still predicted taken, to a user, too
+        dbcc(0x1000),     // a miss, taken
+        dbcc(2),          // predicted taken; it fell through, over the end of the address space
+        Event::ClearAll,
+        dbcc(2), // a miss
+    ]);
+    let mut set = write_image(&State::default());
+    for (i, (byte, bits)) in SET_SLOTS.into_iter().enumerate() {
+        set[4 + 4 * i..8 + 4 * i].copy_from_slice(&((SET_FROM + 2 * i as u32) ^ bits).to_le_bytes());
+        set[1028 + i] = byte;
+    }
+    let old = old_image(&set);
+    let mut all = Vec::new();
+    for (number, image) in [(0, &[][..]), (1, &[]), (0, &set), (1, &old), (2, &old)] {
+        all.extend([TRACE, BATCH, SLICE].map(|what| Case::run(what, number, false, image, &events)));
     }
     all
 }
@@ -726,14 +910,21 @@ pub fn random_replay(seed: u64) -> Vec<u8> {
     bytes
 }
 
-/// The cases that the gate replays: traces and images, then batches and breaks, heads, and at last those of other
-/// numbers.
+// Every other one: `rt try`, by which tests/mutants runs a program, takes 1 MiB of output.
+fn every_other(cases: Vec<Case>) -> impl Iterator<Item = Case> {
+    cases.into_iter().enumerate().filter(|(i, _)| i % 2 == 0).map(|(_, case)| case)
+}
+
+/// The cases that the gate replays: traces and images, then batches and breaks, heads, rooms, and at last those of
+/// other numbers.
 pub fn sample() -> Vec<Case> {
     let mut all = limits();
-    all.extend(cases(&mut Random::new(68060), 1, |_| 0));
+    all.extend(every_other(cases(&mut Random::new(68060), 1, |_| 0)));
     all.extend(batch_limits());
-    all.extend(batches(&mut Random::new(68060), 1, |_| 0));
+    all.extend(every_other(batches(&mut Random::new(68060), 1, |_| 0)));
     all.extend(heads());
+    all.extend(rooms());
+    all.extend(predictions());
     all.extend(profiles());
     all
 }
@@ -746,15 +937,15 @@ pub fn input(cases: &[Case]) -> Vec<u8> {
     bytes
 }
 
-/// What the port must answer.
+/// What the port must print.
 pub fn expected(cases: &[Case]) -> String {
     cases.iter().map(|c| c.expected() + "\n").collect()
 }
 
 // ---- the run
 
-// The port's answers to cases; the runner gets the program's name as the last word.
-fn answers(runner: &[String], cases: &[Case]) -> Result<Vec<String>, String> {
+// The port's lines of cases; the runner gets the program's name as the last word.
+fn printed(runner: &[String], cases: &[Case]) -> Result<Vec<String>, String> {
     let input = input(cases);
     let mut child = Command::new(&runner[0])
         .args(&runner[1..])
@@ -776,7 +967,7 @@ fn answers(runner: &[String], cases: &[Case]) -> Result<Vec<String>, String> {
 }
 
 fn differs(runner: &[String], case: &Case) -> Option<String> {
-    match answers(runner, std::slice::from_ref(case)) {
+    match printed(runner, std::slice::from_ref(case)) {
         Ok(lines) => {
             let got = lines.first().cloned().unwrap_or_default();
             (got != case.expected()).then_some(got)
@@ -795,7 +986,7 @@ fn shrunk(runner: &[String], case: &Case) -> Case {
             best = less;
         }
     }
-    let unit = if best.what == BATCH || best.what == SLICE { 16 } else { 4 };
+    let unit = if best.batch() { 16 } else { 4 };
     let mut step = (best.bytes.len() / 2).next_multiple_of(unit);
     while step >= unit {
         let mut at = 0;
@@ -816,13 +1007,13 @@ fn shrunk(runner: &[String], case: &Case) -> Case {
 // What there is to run: how many cases, and how many retirements of those that are accepted.
 fn say_how_many(all: &[Case]) {
     let count = |what| all.iter().filter(|c| c.what == what).count();
-    let retired = |batch| -> usize { all.iter().filter(|c| c.batch() == batch).map(|c| c.costs(CRATE).len()).sum() };
+    let retired = |batch| -> usize { all.iter().filter(|c| c.batch() == batch).map(|c| c.paid(CRATE).len()).sum() };
     let (traces, read, written) = (count(TRACE), count(READ), count(WRITE));
     println!("{traces} traces with {} retirements, {read} images read, {written} images written", retired(false));
     let (words, structs, breaks) = (count(BATCH), count(SLICE), count(BREAK));
     println!("{words} batches and {structs} batches of structs with {} retirements, {breaks} breaks", retired(true));
     let from = |size| all.iter().filter(|c| c.image.len() == size).count();
-    let runs = all.iter().filter(|c| c.what == TRACE || c.batch());
+    let runs = all.iter().filter(|c| c.runs());
     let heads = runs.filter(|c| c.stepped(c.profile()).1.timing.pending_head.is_some()).count();
     let (old, new) = (from(OLD_IMAGE), from(IMAGE));
     println!("{old} start from an image of kind 16 and {new} from one of kind 17; {heads} runs leave a head");
@@ -831,16 +1022,52 @@ fn say_how_many(all: &[Case]) {
         match case.profile() {
             CRATE => {}
             MENDED => {
-                let (of_crate, mended) = (case.costs(CRATE), case.costs(MENDED));
+                let (of_crate, mended) = (case.paid(CRATE), case.paid(MENDED));
                 by_mended += 1;
                 costs += mended.len();
-                others += of_crate.iter().zip(mended).filter(|(a, b)| *a != b).count();
+                others += of_crate.iter().zip(mended).filter(|(a, b)| a.cost != b.cost).count();
             }
             _ => by_none += 1,
         }
     }
     println!("of these {by_mended} by the mended profile: {costs} retirements, {others} not at the crate's clocks");
     println!("and {by_none} by a number of no profile, which means the crate's");
+    say_answers(all);
+    say_rooms(all);
+}
+
+// How often the cache answers what, by the mended profile and by all others.
+fn say_answers(all: &[Case]) {
+    let mut counts = [[0; ANSWERS.len()]; 2];
+    for case in all {
+        let mended = case.profile() == MENDED;
+        case.paid(case.profile()).iter().for_each(|p| counts[mended as usize][p.answer as usize] += 1);
+    }
+    for (counts, name) in counts.iter().zip(["the crate's", "the mended"]) {
+        let each: Vec<String> = counts.iter().zip(ANSWERS).map(|(n, answer)| format!("{n} {answer}")).collect();
+        println!("answers by {name} profile: {}", each.join(", "));
+    }
+}
+
+// How many runs are short of what, and how many are refused for a record though answers end before it.
+fn say_rooms(all: &[Case]) {
+    let (mut short, mut by_record) = ([0; 4], 0);
+    for case in all.iter().filter(|c| c.runs()) {
+        let each = if case.what == TRACE { 4 } else { 1 };
+        match (Case { room: AMPLE, ..case.clone() }).events() {
+            Ok(events) => {
+                let n = retirements(&events);
+                short[(case.room.costs < each * n) as usize + 2 * (case.room.answers < n) as usize] += 1;
+            }
+            Err((_, place)) => {
+                let before = read_trace(&case.bytes[..place], AMPLE).unwrap_or_default();
+                by_record += (case.room.answers < retirements(&before)) as usize;
+            }
+        }
+    }
+    let [_, costs, answers, both] = short;
+    println!("short of costs alone {costs} runs, of answers alone {answers}, of both {both}");
+    println!("refused for a record, and the answers short before it: {by_record}");
 }
 
 pub fn run(runner: &[String], seed: u64, scale: u64) -> Result<(usize, usize), String> {
@@ -850,12 +1077,14 @@ pub fn run(runner: &[String], seed: u64, scale: u64) -> Result<(usize, usize), S
     all.extend(batch_limits());
     all.extend(batches(&mut rng, scale, any_number));
     all.extend(heads());
+    all.extend(rooms());
+    all.extend(predictions());
     all.extend(profiles());
     say_how_many(&all);
     let (mut passed, mut failed) = (0, 0);
     let mut said = Instant::now();
     for some in all.chunks(2000) {
-        let lines = answers(runner, some)?;
+        let lines = printed(runner, some)?;
         if said.elapsed().as_secs() >= 3 {
             eprintln!("tests/differential: {} of {} cases", passed + failed, all.len());
             said = Instant::now();

@@ -1,5 +1,6 @@
 //! Records, traces and images, read and written from documents 01 and 02 alone: the independent reader that the port is
-//! held against. The head's opcode and address are kept here too: the Rust has neither.
+//! held against. The head's opcode and address are kept here too: the Rust has neither. What its branch cache predicts
+//! is asked of the Rust before each step.
 use crate::core060::cpu::{CACR_060_EBC, CpuCore, PCR_ESS};
 use crate::core060::timing_060::{BranchCache060, Oep060Timing, PendingHead060};
 
@@ -37,6 +38,23 @@ pub struct State {
     pub timing: Oep060Timing,
     pub head: Head,
 }
+
+/// What a retirement gives: its cost, and the number of what the branch cache answered.
+#[derive(Clone, Copy, Debug, PartialEq)]
+pub struct Paid {
+    pub cost: i32,
+    pub answer: u8,
+}
+
+/// What is lent: for costs so many bytes, or places of a batch, or for an image so many bytes; and so many for answers.
+#[derive(Clone, Copy, Debug, PartialEq)]
+pub struct Room {
+    pub costs: usize,
+    pub answers: usize,
+}
+
+/// Enough for any run.
+pub const AMPLE: Room = Room { costs: usize::MAX, answers: usize::MAX };
 
 /// A refusal: its number and place.
 pub type Refused = (u32, usize);
@@ -78,8 +96,9 @@ fn retirement(p: &[u8]) -> Retirement {
     Retirement { op: u16_at(p, 0), flags: u16_at(p, 2), ppc: u32_at(p, 4), pc: u32_at(p, 8), raw: u32_at(p, 12) as i32 }
 }
 
-/// The events of a trace, or the first refusal: 1; record by record 2 to 6; 7 after all records.
-pub fn read_trace(s: &[u8], room: usize) -> Result<Vec<Event>, Refused> {
+/// The events of a trace, or the first refusal: 1; record by record 2 to 6; 7 after all records, where either run is
+/// short.
+pub fn read_trace(s: &[u8], room: Room) -> Result<Vec<Event>, Refused> {
     if s.len() > 16_777_216 {
         return Err((1, 0));
     }
@@ -117,7 +136,7 @@ pub fn read_trace(s: &[u8], room: usize) -> Result<Vec<Event>, Refused> {
         at += 4 + expected;
     }
     let retirements = events.iter().filter(|e| matches!(e, Event::Retired(_))).count();
-    if room < 4 * retirements {
+    if room.costs < 4 * retirements || room.answers < retirements {
         return Err((7, s.len()));
     }
     Ok(events)
@@ -125,12 +144,12 @@ pub fn read_trace(s: &[u8], room: usize) -> Result<Vec<Event>, Refused> {
 
 /// The retirements of a batch, 16 bytes each, or its refusal: 1, then 7. Bytes beyond the last whole record are none of
 /// it.
-pub fn read_batch(s: &[u8], room: usize) -> Result<Vec<Event>, Refused> {
+pub fn read_batch(s: &[u8], room: Room) -> Result<Vec<Event>, Refused> {
     let events: Vec<Event> = s.chunks_exact(16).map(|p| Event::Retired(retirement(p))).collect();
     if events.len() > 1_048_576 {
         return Err((1, 0));
     }
-    if room < events.len() {
+    if room.costs < events.len() || room.answers < events.len() {
         return Err((7, 0));
     }
     Ok(events)
@@ -193,20 +212,20 @@ pub fn read_image(s: &[u8]) -> Result<State, Refused> {
     Ok(State { timing, head })
 }
 
-/// One event, by the profile of a number: the cost of a retirement. Where a retirement leaves the Rust a head, the head
+/// One event, by the profile of a number: what a retirement gives. Where a retirement leaves the Rust a head, the head
 /// is that retirement; where the Rust has none there is none; clears keep it.
-pub fn step(profile: u32, s: &mut State, e: &Event) -> Option<i32> {
-    let cost = step_rust(profile, &mut s.timing, e);
+pub fn step(profile: u32, s: &mut State, e: &Event) -> Option<Paid> {
+    let paid = step_rust(profile, &mut s.timing, e);
     s.head = match (&s.timing.pending_head, e) {
         (None, _) => Head::default(),
         (Some(_), Event::Retired(r)) => Head { op: r.op, address: r.ppc },
         (Some(_), _) => s.head,
     };
-    cost
+    paid
 }
 
 // The event on the Rust module itself.
-fn step_rust(profile: u32, t: &mut Oep060Timing, e: &Event) -> Option<i32> {
+fn step_rust(profile: u32, t: &mut Oep060Timing, e: &Event) -> Option<Paid> {
     match e {
         Event::Retired(r) => {
             let mut cpu = CpuCore {
@@ -219,9 +238,11 @@ fn step_rust(profile: u32, t: &mut Oep060Timing, e: &Event) -> Option<i32> {
                 supervisor: r.flags & 16 != 0,
                 oep060: std::mem::take(t),
             };
-            let cost = cpu.cycles_by(profile, r.raw, r.flags & 2 != 0);
+            let cached = r.flags & 2 != 0;
+            let answer = cpu.answer_by(profile, cached);
+            let cost = cpu.cycles_by(profile, r.raw, cached);
             *t = cpu.oep060;
-            Some(cost)
+            Some(Paid { cost, answer })
         }
         Event::Break => {
             let mut cpu = CpuCore { oep060: std::mem::take(t), ..CpuCore::default() };

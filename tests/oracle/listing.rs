@@ -9,7 +9,7 @@ const LISTED: usize = 65_536;
 
 // The events of a trace that the tools take, or the line of its refusal.
 fn short(trace: &[u8]) -> Result<Vec<Event>, String> {
-    let read = if trace.len() > LISTED { Err((1, 0)) } else { read_trace(trace, usize::MAX) };
+    let read = if trace.len() > LISTED { Err((1, 0)) } else { read_trace(trace, AMPLE) };
     read.map_err(|(n, p)| format!("refused {n} at {p}\n"))
 }
 
@@ -22,7 +22,7 @@ fn listing(profile: u32, trace: &[u8], mut state: State) -> (String, Option<Stat
     let mut text = "index opcode clocks\n".to_string();
     let (mut count, mut total) = (0u64, 0u64);
     for e in &events {
-        if let (Some(cost), Event::Retired(r)) = (step(profile, &mut state, e), e) {
+        if let (Some(Paid { cost, .. }), Event::Retired(r)) = (step(profile, &mut state, e), e) {
             writeln!(text, "{count} {:04X} {cost}", r.op).unwrap();
             count += 1;
             total += cost as u64;

@@ -1,4 +1,5 @@
 //! Both sides, stepped together and compared.
+use crate::core060::cpu::ANSWERS;
 use crate::sides::*;
 use crate::tally::Tally;
 
@@ -30,16 +31,17 @@ impl<'a> Pair<'a> {
         std::mem::take(&mut self.steps)
     }
 
-    /// A retirement on both sides: the cost, the next window with its head's opcode and address, the slot's byte and
-    /// its tag. What was just written is slow to read at once, so that the sides take turns.
+    /// A retirement on both sides: the cost, what the branch cache answered, the next window with its head's opcode and
+    /// address, the slot's byte and its tag. What was just written is slow to read at once, so that the sides take
+    /// turns.
     #[inline(always)]
     pub fn compare(&mut self, s: &Step) {
         self.library.put(s);
         self.rust.put(s);
-        let library_cost = self.library.retire(s);
-        let rust_cost = self.rust.retire(s);
-        let library = self.library.after(s, library_cost);
-        let rust = self.rust.after(s, rust_cost);
+        let library_paid = self.library.retire(s);
+        let rust_paid = self.rust.retire(s);
+        let library = self.library.after(s, library_paid);
+        let rust = self.rust.after(s, rust_paid);
         self.steps += 1;
         if rust != library {
             self.tally.differs(&step_text(s), &after_text(s, &rust), &after_text(s, &library));
@@ -137,8 +139,13 @@ fn step_text(s: &Step) -> String {
     format!("profile {}, opcode {:04X}, {flags}, {window}, raw {}, {places}, {slot}", s.profile, s.op, s.raw)
 }
 
+fn paid_text(p: Paid) -> String {
+    let answer = ANSWERS.get(p.answer as usize).unwrap_or(&"no answer");
+    format!("cost {}, answer {:X} ({answer})", p.cost, p.answer)
+}
+
 fn after_text(s: &Step, a: &After) -> String {
-    format!("cost {}, {}, {}", a.cost, window_text(a.window), slot_text(a.byte, a.tag, s.ppc))
+    format!("{}, {}, {}", paid_text(a.paid), window_text(a.window), slot_text(a.byte, a.tag, s.ppc))
 }
 
 // The first slot that is not as it was, and how many such there are.

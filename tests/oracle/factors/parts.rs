@@ -65,8 +65,9 @@ fn open_window(defs: u16, bits: u16) -> Window {
     [1, defs, bits & 1, bits >> 1 & 1, bits >> 2 & 1, 0x7000 | bits, defs, !defs]
 }
 
-/// A step that is no branch meets a slot which any update would change: valid, its tag equal, its counter 2. Neither
-/// half of its address is its opcode, but for 0000, 0040 and 8000, so that a head's numbers are told apart.
+/// A step that is no branch meets a slot which any update would change, and which would answer any question: valid, its
+/// tag equal, its counter 2. Neither half of its address is its opcode, but for 0000, 0040 and 8000, so that a head's
+/// numbers are told apart.
 fn plain_step(profile: u32, op: u16) -> Step {
     let ppc = 0x0040_0000 + 7 * op as u32;
     Step { profile, op, flags: 0, raw: 0, ppc, pc: ppc.wrapping_add(2), window: SHUT, byte: 0x06, tag: ppc }

@@ -13,7 +13,7 @@ unsafe extern "C" {
         ppc: u32,
         pc: u32,
         raw: i32,
-    ) -> u32;
+    ) -> u64;
     fn timing_060_break_at(window: *mut u16);
     fn timing_060_clear_all_at(state: *mut u8, window: *mut u16);
     fn timing_060_clear_user_at(state: *mut u8, window: *mut u16);
@@ -80,10 +80,17 @@ pub struct Step {
     pub tag: u32,
 }
 
-/// What a step leaves.
+/// What a step gives: its cost, and the number of what the branch cache answered.
+#[derive(Clone, Copy, PartialEq, Eq)]
+pub struct Paid {
+    pub cost: i64,
+    pub answer: u32,
+}
+
+/// That, and what it leaves.
 #[derive(Clone, Copy, PartialEq, Eq)]
 pub struct After {
-    pub cost: i64,
+    pub paid: Paid,
     pub window: Window,
     pub byte: u8,
     pub tag: u32,
@@ -95,7 +102,7 @@ pub trait Side {
     fn window(&self) -> Window;
     fn tags(&self) -> &[u32];
     fn bytes(&self) -> &[u8];
-    fn retire(&mut self, s: &Step) -> i64;
+    fn retire(&mut self, s: &Step) -> Paid;
     fn break_window(&mut self);
     fn clear_all(&mut self);
     fn clear_user(&mut self);
@@ -116,9 +123,9 @@ pub trait Side {
         self.put_slot(slot_of(s.ppc), s.tag, s.byte);
     }
 
-    fn after(&self, s: &Step, cost: i64) -> After {
+    fn after(&self, s: &Step, paid: Paid) -> After {
         let i = slot_of(s.ppc);
-        After { cost, window: self.window(), byte: self.bytes()[i], tag: self.tags()[i] }
+        After { paid, window: self.window(), byte: self.bytes()[i], tag: self.tags()[i] }
     }
 }
 
@@ -160,7 +167,7 @@ impl Side for Rust {
         self.cpu.oep060.branch_cache.oracle_parts().1
     }
 
-    fn retire(&mut self, s: &Step) -> i64 {
+    fn retire(&mut self, s: &Step) -> Paid {
         self.name = name_of(s.op, s.ppc);
         let cpu = &mut self.cpu;
         cpu.ir = s.op as u32;
@@ -170,7 +177,9 @@ impl Side for Rust {
         cpu.pcr = if s.flags & ESS != 0 { PCR_ESS } else { 0 };
         cpu.cacr = if s.flags & EBC != 0 { CACR_060_EBC } else { 0 };
         cpu.supervisor = s.flags & SUPERVISOR != 0;
-        cpu.cycles_by(s.profile, s.raw, s.flags & CACHED != 0) as i64
+        let cached = s.flags & CACHED != 0;
+        let answer = cpu.answer_by(s.profile, cached) as u32;
+        Paid { cost: cpu.cycles_by(s.profile, s.raw, cached) as i64, answer }
     }
 
     fn break_window(&mut self) {
@@ -219,10 +228,12 @@ impl Side for Library {
         &self.slots.bytes
     }
 
-    fn retire(&mut self, s: &Step) -> i64 {
+    /// One number: the cost in its low half, the answer in its high one.
+    fn retire(&mut self, s: &Step) -> Paid {
         let (tags, bytes) = (self.slots.tags.as_mut_ptr(), self.slots.bytes.as_mut_ptr());
         let window = self.window.as_mut_ptr();
-        unsafe { timing_060_retire_at(tags, bytes, window, s.profile, s.op, s.flags, s.ppc, s.pc, s.raw) as i64 }
+        let paid = unsafe { timing_060_retire_at(tags, bytes, window, s.profile, s.op, s.flags, s.ppc, s.pc, s.raw) };
+        Paid { cost: paid as u32 as i64, answer: (paid >> 32) as u32 }
     }
 
     fn break_window(&mut self) {
