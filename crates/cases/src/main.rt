@@ -1,9 +1,9 @@
-// Reads a stream of cases, and prints a line each: WHAT VERDICT NUMBER PLACE COUNT TOTAL LENT ANSWERS STATE.
+// Reads a stream of cases, and prints a line each: WHAT VERDICT NUMBER PLACE COUNT TOTAL LENT ANSWERS REASONS STATE.
 // docs/TESTS.md has the format.
 //
 // `one_case` reads a header and `read_rest` what follows it; `lend` makes the lent bytes, and `run` chooses what is
-// called: `trace`, `image`, `batch`, the batch of words of `host`, or the break of `window`. `print_line` prints what
-// came of it.
+// called: `trace`, `image`, `batch`, the batch of words and the explained trace of `host`, or the break of `window`.
+// `print_line` prints what came of it.
 ghost use mathlib.Core.Path.{_≡_};
 ghost use mathlib.Core.Bool.{true};
 ghost use Prim.Native.Nat.{_+_, _*_, _≤_};
@@ -56,8 +56,12 @@ fn name_of(what: u8) -> [u8; 5] {
     }
 }
 
-// A blank follows each first word.
+// A blank follows each first word; one has three letters.
 fn print_name(what: u8) {
+    if what == 7 {
+        io::write_all(STDOUT_FILENO, b"why ");
+        return;
+    }
     let name = name_of(what);
     io::write_all(STDOUT_FILENO, &name);
     if name[4] != b' ' {
@@ -363,11 +367,40 @@ fn run_trace(
     trace::run_trace(bytes, lent, answers, timing, profile)
 }
 
+// A trace run that says why, as a host lends it.
+fn run_why(
+    bytes: &[u8],
+    lent: &mut [u8],
+    answers: &mut [u8],
+    reasons: &mut [u8],
+    timing: Oep060Timing,
+    number: u32,
+) -> Done {
+    let mut tags = timing.cache.tags;
+    let mut state = timing.cache.state;
+    let mut window = [0; in_place::WINDOW_NUMBERS];
+    in_place::put_window(&mut window, timing.window);
+    let ran = host::timing_060_explain_trace_at(
+        bytes,
+        lent,
+        &mut tags,
+        &mut state,
+        &mut window,
+        number,
+        answers,
+        reasons,
+    );
+    let mut image = [0u8; IMAGE_LENGTH];
+    host::timing_060_image_write_at(&tags, &state, &window, &mut image);
+    Done { ran, image }
+}
+
 fn run(
     what: u8,
     bytes: &[u8],
     lent: &mut [u8],
     answers: &mut [u8],
+    reasons: &mut [u8],
     timing: Oep060Timing,
     number: u32,
 ) -> Done {
@@ -376,18 +409,20 @@ fn run(
         2 => settle(read_image(bytes)),
         3 => settle(write_image(lent, timing)),
         6 => settle(run_break(timing)),
+        7 => run_why(bytes, lent, answers, reasons, timing, number),
         _ => run_batch(what, bytes, lent, answers, timing, number),
     }
 }
 
 // The line of a case. An image written has no next state.
-fn print_line(what: u8, done: Done, lent: &[u8], answers: &[u8]) {
+fn print_line(what: u8, done: Done, lent: &[u8], answers: &[u8], reasons: &[u8]) {
     let ran = done.ran;
     let image = done.image;
     print_name(what);
     print_ran(ran);
     print_hex(lent);
     print_hex(answers);
+    print_hex(reasons);
     if what == 3 {
         put(b' ');
         put(b'-');
@@ -403,13 +438,15 @@ fn answer(
     bytes: &[u8],
     lent: &mut [u8],
     answers: &mut [u8],
+    reasons: &mut [u8],
     timing: Oep060Timing,
     number: u32,
 ) {
     fill(lent);
     fill(answers);
-    let done = run(what, bytes, lent, answers, timing, number);
-    print_line(what, done, lent, answers);
+    fill(reasons);
+    let done = run(what, bytes, lent, answers, reasons, timing, number);
+    print_line(what, done, lent, answers, reasons);
 }
 
 // A word of its own if one of the 16 bytes beyond the room, which hold zeros, was written.
@@ -422,23 +459,35 @@ fn print_spilled(buffer: &[u8], room: usize)
 }
 
 // One case, with a buffer for each run that it lends.
-fn lend(what: u8, room: usize, second: usize, bytes: &[u8], timing: Oep060Timing, number: u32)
-    requires { ⌜ (room ≤ 65535) × (second ≤ 65535) ⌝ }
+fn lend(
+    what: u8,
+    room: usize,
+    second: usize,
+    third: usize,
+    bytes: &[u8],
+    timing: Oep060Timing,
+    number: u32,
+)
+    requires { ⌜ (room ≤ 65535) × (second ≤ 65535) × (third ≤ 65535) ⌝ }
 {
     let mut buffer = io::large_buffer();
     let mut other = io::large_buffer();
+    let mut last = io::large_buffer();
     let lent: &mut [u8] = &mut buffer;
     let answers: &mut [u8] = &mut other;
+    let reasons: &mut [u8] = &mut last;
     answer(
         what,
         bytes,
         &mut lent[..room],
         &mut answers[..second],
+        &mut reasons[..third],
         timing,
         number,
     );
     print_spilled(lent, room);
     print_spilled(answers, second);
+    print_spilled(reasons, third);
 }
 
 // How many bytes a case lends for costs or an image: a batch's places are of four, and an image read or a break lends
@@ -447,7 +496,7 @@ fn room_of(what: u8, room: u16) -> usize
     ensures { λ r. ⌜ r ≤ 65535 ⌝ }
 {
     match what {
-        1 | 3 => room as usize,
+        1 | 3 | 7 => room as usize,
         2 | 6 => 0,
         _ => (room % 16384 * 4) as usize,
     }
@@ -463,22 +512,33 @@ fn answers_room(what: u8, room: u16) -> usize
     }
 }
 
+// How many bytes a case lends for reasons: only a trace run that says why has any.
+fn reasons_room(what: u8, room: u16) -> usize
+    ensures { λ r. ⌜ r ≤ 65535 ⌝ }
+{
+    match what {
+        7 => room as usize,
+        _ => 0,
+    }
+}
+
 // A case of which all came: the image that it starts from is as long as is given, and then come its bytes.
 fn split(h: &[u8], given: usize, rest: &[u8])
-    requires { ⌜ (length (now h) ≡ 10) × (given ≤ length (now rest)) ⌝ }
+    requires { ⌜ (length (now h) ≡ 12) × (given ≤ length (now rest)) ⌝ }
 {
     let what = h[0];
     let room = room_of(what, little_endian::u16_at(h, 2));
     let second = answers_room(what, little_endian::u16_at(h, 8));
+    let third = reasons_room(what, little_endian::u16_at(h, 10));
     // Bit 0 says that the state is dirty; the rest is the number of the profile.
     let timing = start(&rest[..given], h[1] % 2 == 1);
     let number = (h[1] / 2) as u32;
-    lend(what, room, second, &rest[given..], timing, number);
+    lend(what, room, second, third, &rest[given..], timing, number);
 }
 
 // Reads what follows a header and answers the case; answers whether all came.
 fn read_rest(h: &[u8]) -> bool
-    requires { ⌜ length (now h) ≡ 10 ⌝ }
+    requires { ⌜ length (now h) ≡ 12 ⌝ }
 {
     let given = little_endian::u16_at(h, 4) as usize;
     let all = given + little_endian::u16_at(h, 6) as usize;
@@ -492,8 +552,8 @@ fn read_rest(h: &[u8]) -> bool
 
 // Reads one case and answers it; answers whether there was one.
 fn one_case() -> bool {
-    let mut h = [0u8; 10];
-    if read_part(&mut h, 10) {
+    let mut h = [0u8; 12];
+    if read_part(&mut h, 12) {
         return read_rest(&h);
     }
     false

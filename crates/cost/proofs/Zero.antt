@@ -22,11 +22,11 @@ use Rattle.cost.specs.Free.{sound, joining, folding, free}
 use Rattle.cost.proofs.Led.{led-shut}
 use Rattle.cost.proofs.Sound.{base-least, passes-base, passes-unbranched, branch-fails}
 
-and-false : (b : Bool) → (b && false) ≡ false
+pub and-false : (b : Bool) → (b && false) ≡ false
 and-false true = refl
 and-false false = refl
 
-or-false : (b : Bool) → (b || false) ≡ b
+pub or-false : (b : Bool) → (b || false) ≡ b
 or-false true = refl
 or-false false = refl
 

@@ -14,6 +14,7 @@
 --   branchCost dbcc taken opened a    ==  the one or the other, by the cache's answer
 --   answerNumber a                    ==  the number of the cache's answer. Document 02, R-5: "not consulted, miss,
 --                                         predicted not taken, predicted taken"; "0 to 3 in this order"
+--   answerAt n                        ==  the answer of a number; one that is no answer's is read as the last
 --   branchOf dbcc taken opened a      ==  what a branch costs, and the answer. Document 02, R-5: "The branch cost shall
 --                                         also answer"
 use Prim.Native.Nat.{ℕ, _+_, _%_, _^_}
@@ -55,6 +56,9 @@ answerNumber NotConsulted = 0
 answerNumber Miss = 1
 answerNumber PredictedNotTaken = 2
 answerNumber PredictedTaken = 3
+
+abbrev pub answerAt : ℕ → Answer
+answerAt n = cond (eqb n 0) NotConsulted (cond (eqb n 1) Miss (cond (eqb n 2) PredictedNotTaken PredictedTaken))
 
 abbrev pub branchOf : Bool → Bool → Bool → Answer → BranchCost
 branchOf dbcc taken opened a = record { cost = clocks (branchCost dbcc taken opened a); answer = a }

@@ -1,7 +1,7 @@
 // Part 5 of document 01: the branch's cost.
 ghost use mathlib.Core.Path.{_≡_};
 ghost use Rattle.class_word.specs.Word.{has, DBCC};
-ghost use Rattle.cost.specs.Branch.{takenOf, answerNumber, branchOf};
+ghost use Rattle.cost.specs.Branch.{takenOf, answerNumber, answerAt, branchOf};
 use class_word::Clocks;
 use class_word::F_DBCC;
 use window::Controls;
@@ -41,6 +41,22 @@ pub fn answer_number(answer: Answer) -> u8
         Answer::PredictedNotTaken => 2,
         Answer::PredictedTaken => 3,
     }
+}
+
+// The answer of a number; one that is no answer's is read as the last.
+pub fn answer_at(number: u8) -> Answer
+    ensures { λ r. ⌜ r ≡ answerAt number ⌝ }
+{
+    if number == 0 {
+        return Answer::NotConsulted;
+    }
+    if number == 1 {
+        return Answer::Miss;
+    }
+    if number == 2 {
+        return Answer::PredictedNotTaken;
+    }
+    Answer::PredictedTaken
 }
 
 // Whether a branch is taken; DBcc does not raise `flowed`, so it is told by where it went.

@@ -6,6 +6,7 @@ mod branch;
 
 pub use branch::Answer;
 pub use branch::BranchCost;
+pub use branch::answer_at;
 pub use branch::answer_number;
 pub use branch::branch_cost_060;
 pub use branch::charge_branch;

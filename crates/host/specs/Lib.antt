@@ -6,9 +6,11 @@
 --                   afterwards
 --   HostRuns    ==  runs of a trace, on lent numbers
 --   HostWords   ==  a batch as 32-bit words, four for each record: their retirements, and their batch on lent numbers
+--   HostWhy     ==  why a retirement costs what it costs: one step, and a run of a trace, on lent numbers
 --   HostImages  ==  image writing and image reading, on lent numbers
 pub mod HostMasks
 pub mod HostRan
 pub mod HostRuns
 pub mod HostWords
+pub mod HostWhy
 pub mod HostImages

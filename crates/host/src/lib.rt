@@ -1,8 +1,8 @@
 // What a host in C or Rust calls: it lends its state as numbers, and need test nothing first.
 //
-// `results` has what a run gives, as numbers, and the next state stored; `words` a batch as 32-bit words. Each function
-// here is a thin one over the crates below: raw counts and clocks are taken apart here and nowhere above, and a profile
-// comes as a number (`profile_at`).
+// `results` has what a run or an explained step gives, as numbers, and the next state stored; `words` a batch as 32-bit
+// words. Each function here is a thin one over the crates below: raw counts and clocks are taken apart here and nowhere
+// above, and a profile comes as a number (`profile_at`).
 mod results;
 mod words;
 
@@ -21,6 +21,7 @@ ghost use Rattle.refusals.specs.Runs.{runs};
 ghost use Rattle.host.specs.HostRan.{hostOutcome};
 ghost use Rattle.host.specs.HostWords.{runBatchAtOf};
 ghost use Rattle.host.specs.HostRuns.{runTraceAtOf};
+ghost use Rattle.host.specs.HostWhy.{hostExplained, explainNumberAtOf, hostWhy, explainTraceAtOf};
 ghost use Rattle.host.specs.HostImages.{hostImage, imageWriteAtOf, hostState, imageReadAtOf};
 ghost use Rattle.state.specs.Flags.{retirementOf};
 ghost use Rattle.host.specs.HostMasks.{hostMasksOf};
@@ -30,7 +31,9 @@ use in_place::WindowNumbers;
 use results::fresh_at;
 use results::put_accepted;
 use results::put_timing;
+use results::why_number;
 use window::Instruction;
+use window::RawCount;
 
 #[repr(C)]
 pub struct HostMasks {
@@ -69,6 +72,30 @@ pub extern "C" fn timing_060_retire_at(
         (retirementOf op flags ppc pc (rawCount raw)) ⌝ }
 {
     in_place::retire_at(tags, state, window, profile, op, flags, ppc, pc, raw)
+}
+
+// The same retirement in place, and why it costs what it costs: above the clocks 8 bits for what the cache predicted,
+// and above them the reason, 0 to 13.
+#[no_mangle]
+pub extern "C" fn timing_060_explain_at(
+    tags: &mut [u32; 256],
+    state: &mut [u8; 256],
+    window: &mut WindowNumbers,
+    profile: u32,
+    op: u16,
+    flags: u16,
+    ppc: u32,
+    pc: u32,
+    raw: i32,
+) -> u64
+    ensures { λ r. ⌜ hostExplained r (lent (now (tags .exit)) (now (state .exit)) (now (window .exit)))
+        ≡ explainNumberAtOf (profileAt profile) (lent (now (tags .entry)) (now (state .entry)) (now (window .entry)))
+        (retirementOf op flags ppc pc (rawCount raw)) ⌝ }
+{
+    let p = profile::profile_at(profile);
+    let r = state::retirement_of(op, flags, ppc, pc, RawCount(raw));
+    let explained = reasons::explain_in_place(tags, state, window, p, r);
+    why_number(explained)
 }
 
 // The break: tags and slots stay, and are not lent.
@@ -156,6 +183,32 @@ pub extern "C" fn timing_060_run_trace_at(
     let next = ran.timing;
     put_accepted(tags, state, window, verdict, next);
     host_ran(verdict, ran.count, ran.total)
+}
+
+// The same run, which writes each retirement's reason too. Answers and reasons come last, over the stack.
+#[no_mangle]
+pub extern "C" fn timing_060_explain_trace_at(
+    trace: &[u8],
+    costs: &mut [u8],
+    tags: &mut [u32; 256],
+    state: &mut [u8; 256],
+    window: &mut WindowNumbers,
+    profile: u32,
+    answers: &mut [u8],
+    reasons: &mut [u8],
+) -> HostRan
+    ensures { λ r. ⌜ hostWhy (hostOutcome r (runs (now (costs .exit)) (now (answers .exit))) (lent (now (tags .exit))
+        (now (state .exit)) (now (window .exit)))) (now (reasons .exit))
+        ≡ explainTraceAtOf (profileAt profile) (now (trace .entry)) (runs (now (costs .entry)) (now (answers .entry)))
+        (now (reasons .entry)) (lent (now (tags .entry)) (now (state .entry)) (now (window .entry))) ⌝ }
+{
+    let given = in_place::timing_at(*tags, *state, *window);
+    let p = profile::profile_at(profile);
+    let explained = reasons::explain_trace(trace, costs, answers, reasons, given, p);
+    let verdict = explained.verdict;
+    let last = explained.timing;
+    put_accepted(tags, state, window, verdict, last);
+    host_ran(verdict, explained.count, explained.total)
 }
 
 // A batch of records of four words each; words beyond the last whole record are not read. The answers come last, too.

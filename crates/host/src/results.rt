@@ -3,9 +3,11 @@ ghost use mathlib.Core.Path.{_≡_};
 ghost use Rattle.state.specs.Timing.{freshOf};
 ghost use Rattle.in_place.specs.Lent.{lent, lentOf};
 ghost use Rattle.host.specs.HostRan.{hostRanOf, lentAfter};
+ghost use Rattle.host.specs.HostWhy.{whyNumber};
 use in_place::WindowNumbers;
 use in_place::put_window;
 use in_place::shut_window;
+use reasons::Explained;
 use refusals::Verdict;
 use state::Oep060Timing;
 
@@ -83,4 +85,16 @@ pub fn host_ran(verdict: Verdict, count: usize, total: u64) -> HostRan
             }
         }
     }
+}
+
+// An explained retirement as one number, which goes through a register.
+pub fn why_number(x: Explained) -> u64
+    ensures { λ r. ⌜ r ≡ whyNumber x ⌝ }
+{
+    let cost = x.cost;
+    let predicted = x.answer;
+    let why = x.reason;
+    let answer = cost::answer_number(predicted);
+    let reason = reasons::reason_number(why);
+    cost.0 as u64 + answer as u64 * 4294967296 + reason as u64 * 1099511627776
 }

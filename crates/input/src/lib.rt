@@ -1,12 +1,14 @@
-// What the tools read before they work: standard input, whole, and the word that names a profile.
+// What the tools read before they work: standard input, whole, and the words behind a program's name.
 //
-// `read_input` reads standard input; `words` has the word. A program lends one byte more than it takes, so that longer
+// `read_input` reads standard input; `words` has the words. A program lends one byte more than it takes, so that longer
 // input is seen to be longer.
 mod words;
 
+pub use words::Request;
 pub use words::Word;
 pub use words::profile_named;
 pub use words::read_word;
+pub use words::read_words;
 ghost use lib.ListN.{length};
 ghost use Rattle.input.specs.Input.{Within};
 use libc::STDIN_FILENO;

@@ -7,6 +7,7 @@ mod lines;
 mod table;
 
 pub use lines::put_refusal;
+pub use lines::put_total;
 ghost use mathlib.Core.Path.{_≡_};
 ghost use Prim.Native.Nat.{_≤_};
 ghost use lib.ListN.{length};

@@ -60,7 +60,7 @@ pub fn put_header(out: &mut [u8], at: usize) -> usize
 
 // The number of retirements and the sum of their costs.
 pub fn put_total(out: &mut [u8], at: usize, count: usize, sum: u64) -> usize
-    // There is room: only `table` calls this, where the room is known.
+    // There is room: only `table` and `explaining` call this, where the room is known.
     requires { ⌜ at + 48 ≤ length (now out) ⌝ }
     ensures { λ r. ⌜ written r (now (out .exit)) ≡ writtenOf (now (out .entry)) at (totalLine count sum) ⌝ }
 {

@@ -17,9 +17,11 @@ use Rattle.window.proofs.Window.seen.Reads as window-window-seen
 use Rattle.window.proofs.fallback_cycles.Reads as window-fallback-cycles
 use Rattle.cost.proofs.taken.Reads as cost-taken
 use Rattle.window.proofs.memory.Reads as window-memory
+use Rattle.window.proofs.failing.Reads as window-failing
 use Rattle.window.proofs.soep_dispatch_test.Reads as window-soep-dispatch-test
 use Rattle.cost.proofs.charge_branch.Reads as cost-charge-branch
 use Rattle.cost.proofs.charge_other.Reads as cost-charge-other
+use Rattle.step.proofs.looked_up.Reads as step-looked-up
 use Rattle.step.proofs.cycles_060.Reads as step-cycles-060
 use Rattle.state.proofs.Oep060Timing.fresh.Reads as state-oep060timing-fresh
 use Rattle.state.proofs.Oep060Timing.seen.Reads as state-oep060timing-seen
@@ -34,6 +36,7 @@ use Rattle.branch_cache.proofs.BranchCache060.update.Reads as branch-cache-bran
 use Rattle.branch_cache.proofs.update_at.Reads as branch-cache-update-at
 use Rattle.cost.proofs.branch_cost_060.Reads as cost-branch-cost-060
 use Rattle.cost.proofs.answer_number.Reads as cost-answer-number
+use Rattle.cost.proofs.answer_at.Reads as cost-answer-at
 use Rattle.cost.proofs.as_head.Reads as cost-as-head
 use Rattle.state.proofs.answer_of.Reads as state-answer-of
 use Rattle.state.proofs.consulted.Reads as state-consulted
@@ -54,6 +57,9 @@ module _ (κs : Lifetimes.Lfts 0) where
 
   pub cost-answer-number-determined : Determined result (cost-answer-number.Post κs)
   cost-answer-number-determined i r r′ x x′ p q = p ∙ sym q
+
+  pub cost-answer-at-determined : Determined result (cost-answer-at.Post κs)
+  cost-answer-at-determined i r r′ x x′ p q = p ∙ sym q
 
   pub cost-branch-cost-060-determined : Determined result (cost-branch-cost-060.Post κs)
   cost-branch-cost-060-determined i r r′ x x′ p q = p ∙ sym q
@@ -100,6 +106,9 @@ module _ (κs : Lifetimes.Lfts 0) where
   pub window-memory-determined : Determined result (window-memory.Post κs)
   window-memory-determined i r r′ x x′ p q = p ∙ sym q
 
+  pub window-failing-determined : Determined result (window-failing.Post κs)
+  window-failing-determined i r r′ x x′ p q = p ∙ sym q
+
   pub window-soep-dispatch-test-determined : Determined result (window-soep-dispatch-test.Post κs)
   window-soep-dispatch-test-determined i r r′ x x′ p q = p ∙ sym q
 
@@ -108,6 +117,9 @@ module _ (κs : Lifetimes.Lfts 0) where
 
   pub cost-charge-other-determined : Determined result (cost-charge-other.Post κs)
   cost-charge-other-determined i r r′ x x′ p q = p ∙ sym q
+
+  pub step-looked-up-determined : Determined result (step-looked-up.Post κs)
+  step-looked-up-determined i r r′ x x′ p q = p ∙ sym q
 
   pub step-cycles-060-determined : Determined result (step-cycles-060.Post κs)
   step-cycles-060-determined i r r′ x x′ p q = p ∙ sym q

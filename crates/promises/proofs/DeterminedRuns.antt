@@ -37,9 +37,11 @@ use Rattle.text.proofs.put_hex8.Reads as text-put-hex8
 use Rattle.text.proofs.put_decimal.Reads as text-put-decimal
 use Rattle.text.proofs.put_signed.Reads as text-put-signed
 use Rattle.listing.proofs.put_refusal.Reads as listing-put-refusal
+use Rattle.listing.proofs.put_total.Reads as listing-put-total
 use Rattle.listing.proofs.list_into.Reads as listing-list-into
 use Rattle.listing.proofs.list_trace.Reads as listing-list-trace
 use Rattle.replaying.proofs.replay_text.Reads as replaying-replay-text
+use Rattle.showing.proofs.judge_short.Reads as showing-judge-short
 use Rattle.showing.proofs.show_trace.Reads as showing-show-trace
 use Rattle.rule_text.proofs.put_page.Reads as rule-text-put-page
 use Rattle.batch.proofs.batch_verdict.Reads as batch-batch-verdict
@@ -124,8 +126,14 @@ module _ (κs : Lifetimes.Lfts 1) where
   pub text-put-signed-determined : Determined (λ r x. written r (now (x .0))) (text-put-signed.Post κs)
   text-put-signed-determined i r r′ x x′ p q = p ∙ sym q
 
+  pub showing-judge-short-determined : Determined result (showing-judge-short.Post κs)
+  showing-judge-short-determined i r r′ x x′ p q = p ∙ sym q
+
   pub listing-put-refusal-determined : Determined (λ r x. written r (now (x .0))) (listing-put-refusal.Post κs)
   listing-put-refusal-determined i r r′ x x′ p q = p ∙ sym q
+
+  pub listing-put-total-determined : Determined (λ r x. written r (now (x .0))) (listing-put-total.Post κs)
+  listing-put-total-determined i r r′ x x′ p q = p ∙ sym q
 
 module _ (κs : Lifetimes.Lfts 2) where
   pub text-put-bytes-determined : Determined (λ r x. written r (now (x .0))) (text-put-bytes.Post κs)

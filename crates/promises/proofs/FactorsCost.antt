@@ -13,7 +13,6 @@ use Rattle.window.specs.declared.dispatch.Controls.{Controls}
 use Rattle.window.specs.declared.Window.{Window}
 use Rattle.window.specs.Windows.{shut, seen, unnamed}
 use Rattle.window.specs.Dispatch.{memory, isSimple, lateCcr, secondMemory}
-use Rattle.window.proofs.Rules.{passes-and}
 use Rattle.cost.specs.declared.branch.Answer.{Answer}
 use Rattle.cost.specs.declared.branch.Answer.the-variants.{NotConsulted}
 use Rattle.cost.specs.Retiring.{branch, flow, neither, otherPoint, pointOf}
@@ -28,6 +27,7 @@ use Rattle.state.specs.Events.{heard, answerOf, asMet}
 use Rattle.state.specs.CrateCache.{crateCache}
 use Rattle.state.specs.Timing.{stateOf}
 use Rattle.promises.specs.Factors.{BranchFactors, Factors, touchedOf, branchFactorsOf, factorsOf, coarse}
+use Rattle.promises.proofs.Passes.{passes-and}
 use Rattle.promises.proofs.FactorsAnswer.{answerFrom}
 
 -- ---- of an instruction and factors

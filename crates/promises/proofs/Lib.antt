@@ -20,12 +20,15 @@ pub mod Traces
 pub mod DeterminedRuns
 pub mod Batches
 pub mod DeterminedHosts
+pub mod DeterminedWhy
 pub mod DeterminedGroups
 pub mod DeterminedInPlace
 pub mod DeterminedByHand
 pub mod Moving
 pub mod MovingHosts
+pub mod Why
 pub mod FactorsAnswer
+pub mod Passes
 pub mod FactorsCost
 pub mod FactorsCache
 pub mod FactorsStep

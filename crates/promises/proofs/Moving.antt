@@ -119,7 +119,7 @@ module _ (P : Profile) (trace : List ℕ) (lent : Runs) (t : Oep060Timing) (es :
   ns = costsOf P t es
 
   -- the numbers that stand in the lent bytes are the costs
-  stand : numbersAt (countOf es) 4 (runTraceOf P trace lent t .lent .costs) 0 ≡ ns
+  pub stand : numbersAt (countOf es) 4 (runTraceOf P trace lent t .lent .costs) 0 ≡ ns
   unfolding putAt
   stand =
       ap₂ (λ (n : ℕ) (o : TraceOutcome). numbersAt n 4 (o .lent .costs) 0) (sym (each-count (boardOf P) costOf (stateOf (seenOf t)) es)) (run-accepted P trace lent t ok)

@@ -23,7 +23,8 @@ use Rattle.masks.specs.Masks.{dyadicSets, setsOf}
 use Rattle.window.specs.declared.dispatch.Instruction.{Instruction}
 use Rattle.window.specs.declared.Window.{Window}
 use Rattle.window.specs.Dispatch.{passes, isSimple, holds, failing, firstFailing}
-use Rattle.window.proofs.Rules.{passes-all}
+use Rattle.window.specs.declared.dispatch.Rule.the-variants.{Simple, RegistersFree}
+use Rattle.window.proofs.Rules.{passes-each}
 use Rattle.cost.specs.Retiring.{pointOf}
 use Rattle.cost.specs.Cost.{pairs, windowOf}
 use Rattle.cost.proofs.Led.{led-open, led-opened}
@@ -69,7 +70,7 @@ module _ (s : State crateCache) (h f : Retirement) (x : OverPairs Mended s h f) 
 
   simple : isSimple (i .word .0) ≡ true
   unfolding holds
-  simple = passes-all i (f .controls) w passed .1 .1 .0
+  simple = passes-each i (f .controls) w passed Simple
 
   -- the register rule
   free : bitAnd (bitOr (i .uses) (i .defs)) (j .defs) ≡ 0
@@ -77,7 +78,7 @@ module _ (s : State crateCache) (h f : Retirement) (x : OverPairs Mended s h f) 
   free =
       let m = bitAnd (bitOr (i .uses) (i .defs)) (w .defs) in
       ap (bitAnd (bitOr (i .uses) (i .defs))) (sym head-defs)
-      ∙ eqb-true m 0 (not-false (eqb m 0) (not-true (meets (bitOr (i .uses) (i .defs)) (w .defs)) (passes-all i (f .controls) w passed .1 .1 .1 .0)))
+      ∙ eqb-true m 0 (not-false (eqb m 0) (not-true (meets (bitOr (i .uses) (i .defs)) (w .defs)) (passes-each i (f .controls) w passed RegistersFree)))
 
   none-taken : ⊥
   none-taken =

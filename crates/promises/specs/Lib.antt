@@ -11,6 +11,7 @@
 --   Batches      ==  what holds of every batch
 --   Images       ==  what holds of every state image
 --   Answers      ==  what holds of the cache's answers that steps, runs and batches tell
+--   Why          ==  what holds of every retirement's reason, and of the runs that tell it
 --   OldRuns      ==  steps, runs and batches before they told an answer, and that no cost moved
 --   OldReader    ==  the reader of images before kind 17, and what it meets
 --   Heads        ==  what holds of the head's opcode and address
@@ -29,6 +30,7 @@ pub mod Traces
 pub mod Batches
 pub mod Images
 pub mod Answers
+pub mod Why
 pub mod OldRuns
 pub mod OldReader
 pub mod Heads

@@ -26,8 +26,8 @@ use refusals::Verdict;
 // characters for each 4 bytes are enough, 278,528. The header has 37 characters, and the end line at most 10.
 pub const SHOWING_ROOM: usize = 278600;
 
-// Whether a trace is shown, or which refusal is.
-fn judge_short(trace: &[u8]) -> Verdict
+// Whether a trace is shown, or which refusal is; `explaining` prints by it, too.
+pub fn judge_short(trace: &[u8]) -> Verdict
     ensures { λ r. ⌜ r ≡ verdictOf (shortTraceOf (now (trace .entry))) ⌝ }
 {
     if MOST_LISTED_BYTES < trace.len() {

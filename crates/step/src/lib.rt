@@ -4,6 +4,7 @@
 ghost use mathlib.Core.Path.{_≡_};
 ghost use mathlib.Core.Bool.{true, false};
 ghost use Rattle.class_word.specs.Word.{has, BRANCH};
+ghost use Rattle.profile.specs.Profile.{profileOf};
 ghost use Rattle.state.specs.Events.{answerOf};
 ghost use Rattle.state.specs.CrateCache.{crateCache};
 ghost use Rattle.state.specs.Timing.{steppedBy};
@@ -83,19 +84,26 @@ fn other_060(mut timing: Oep060Timing, i: Instruction, r: Retirement) -> Stepped
     }
 }
 
-// The Rust's cycles_060: its lookup, read in the profile.
-pub fn cycles_060(chosen: Chosen, r: Retirement) -> Stepped
-    ensures { λ o. ⌜ o ≡ steppedOf (chosen .profile) (chosen .timing) r ⌝ }
+// The Rust's lookup of an opcode, read in the profile.
+pub fn looked_up(profile: Profile, op: u16) -> Instruction
+    ensures { λ r. ⌜ r ≡ profileOf profile op ⌝ }
 {
-    let info = info_060(r.op);
-    let masks = reg_masks_060(r.op);
-    let looked_up = Instruction {
+    let info = info_060(op);
+    let masks = reg_masks_060(op);
+    let i = Instruction {
         word: info,
         uses: masks.uses,
         defs: masks.defs,
     };
+    profile::read_in(profile, op, i)
+}
+
+// The Rust's cycles_060.
+pub fn cycles_060(chosen: Chosen, r: Retirement) -> Stepped
+    ensures { λ o. ⌜ o ≡ steppedOf (chosen .profile) (chosen .timing) r ⌝ }
+{
     let profile = chosen.profile;
-    let i = profile::read_in(profile, r.op, looked_up);
+    let i = looked_up(profile, r.op);
     if i.word.has(F_BRANCH) {
         return branch_060(chosen.timing, i, r);
     }

@@ -26,7 +26,7 @@ use Rattle.state.specs.Events.{countOf}
 use Rattle.in_place.specs.Retire.{paidFor}
 use Rattle.class_word.specs.Word.{clocks}
 
-timing-held : (t : Oep060Timing) → stateAt (lentOf t) ≡ t
+pub timing-held : (t : Oep060Timing) → stateAt (lentOf t) ≡ t
 timing-held t = ap (timingAt (t .cache .tags) (t .cache .state)) (window-held (t .window))
 
 module _ {P : Profile} {trace : List ℕ} {lent₀ : Runs} {t₀ : Oep060Timing} {runs : Runs} {at k sum : ℕ} (l : Lent) (g : Going P trace lent₀ t₀ runs at k sum (stateAt l)) where

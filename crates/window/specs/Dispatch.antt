@@ -6,16 +6,17 @@
 --   isSimple word        ==  "follower class 0 and none of EA_INDEXED, UNCLASSIFIED, VARIABLE"
 --   lateCcr word w       ==  "a late CCR user behind a definer"
 --   secondMemory word w  ==  "memory behind memory"
---   Rule, rules          ==  the six rules, and their list in document 01's order
+--   Rule, rules          ==  the six rules, the enum of the code, and their list in document 01's order
 --   holds i k w rule     ==  the rule holds; over each line, document 01's words
+--   Dispatch             ==  none fails, `Passes`, or one, `Fails rule`: the enum of the code
 --   firstFailing h l     ==  the first of the list l of which h does not hold, if there is one
---   failing i k w        ==  the first rule that fails, if there is one
---   isNone o             ==  there is none
+--   failing i k w        ==  the first rule that fails, if there is one. Document 02's R-1 reads it too: "the first
+--                            dispatch rule that failed, in document 01's order"
+--   isPassed d           ==  there is none
 --   passes i k w         ==  the dispatch test passes: none fails
 use Prim.Native.Nat.{ℕ}
 use mathlib.Core.Bool.{Bool, true, false, not, cond, _&&_, _||_}
 use mathlib.Core.List.{List, [], _∷_}
-use mathlib.Core.Option.{Option, none, some}
 use lib.Dec.{eqb}
 use lib.Bits.{bitOr}
 use Rattle.bits.specs.Words.{meets}
@@ -31,6 +32,17 @@ use Rattle.class_word.specs.Word.{
 }
 use Rattle.window.specs.declared.dispatch.Instruction.{Instruction}
 use Rattle.window.specs.declared.dispatch.Controls.{Controls}
+use Rattle.window.specs.declared.dispatch.Rule.{Rule}
+use Rattle.window.specs.declared.dispatch.Rule.the-variants.{
+  EssOn,
+  BothCached,
+  Simple,
+  RegistersFree,
+  NoLateCcr,
+  OneMemory,
+}
+use Rattle.window.specs.declared.dispatch.Dispatch.{Dispatch}
+use Rattle.window.specs.declared.dispatch.Dispatch.the-variants.{Passes, Fails}
 use Rattle.window.specs.declared.Window.{Window}
 
 abbrev pub memory : ℕ → Bool
@@ -49,36 +61,33 @@ lateCcr word w = has word «USES_CCR_LATE» && w .ccr
 abbrev pub secondMemory : ℕ → Window → Bool
 secondMemory word w = memory word && w .mem
 
-pub data Rule : Type 0 where
-  essOn bothCached simple registersFree noLateCcr oneMemory : Rule
-
 abbrev pub rules : List Rule
-rules = essOn ∷ bothCached ∷ simple ∷ registersFree ∷ noLateCcr ∷ oneMemory ∷ []
+rules = EssOn ∷ BothCached ∷ Simple ∷ RegistersFree ∷ NoLateCcr ∷ OneMemory ∷ []
 
 unfoldable pub holds : Instruction → Controls → Window → Rule → Bool
 -- "ESS on"
-holds i k w essOn = k .ess
+holds i k w EssOn = k .ess
 -- "head and follower both cached"
-holds i k w bothCached = w .warm && k .cached
+holds i k w BothCached = w .warm && k .cached
 -- "follower class 0 and none of EA_INDEXED, UNCLASSIFIED, VARIABLE"
-holds i k w simple = isSimple (i .word .0)
+holds i k w Simple = isSimple (i .word .0)
 -- "(use or def) shares no bit with the head's def"
-holds i k w registersFree = not (meets (bitOr (i .uses) (i .defs)) (w .defs))
+holds i k w RegistersFree = not (meets (bitOr (i .uses) (i .defs)) (w .defs))
 -- "not a late CCR user behind a definer"
-holds i k w noLateCcr = not (lateCcr (i .word .0) w)
+holds i k w NoLateCcr = not (lateCcr (i .word .0) w)
 -- "not memory behind memory"
-holds i k w oneMemory = not (secondMemory (i .word .0) w)
+holds i k w OneMemory = not (secondMemory (i .word .0) w)
 
-unfoldable pub firstFailing : {A : Type 0} → (A → Bool) → List A → Option A
-firstFailing h [] = none
-firstFailing h (a ∷ l) = cond (h a) (firstFailing h l) (some a)
+unfoldable pub firstFailing : (Rule → Bool) → List Rule → Dispatch
+firstFailing h [] = Passes
+firstFailing h (rule ∷ l) = cond (h rule) (firstFailing h l) (Fails rule)
 
-unfoldable pub failing : Instruction → Controls → Window → Option Rule
+unfoldable pub failing : Instruction → Controls → Window → Dispatch
 failing i k w = firstFailing (holds i k w) rules
 
-abbrev pub isNone : {A : Type 0} → Option A → Bool
-isNone none = true
-isNone (some a) = false
+abbrev pub isPassed : Dispatch → Bool
+isPassed Passes = true
+isPassed (Fails rule) = false
 
 abbrev pub passes : Instruction → Controls → Window → Bool
-passes i k w = isNone (failing i k w)
+passes i k w = isPassed (failing i k w)

@@ -1,10 +1,8 @@
 // Part 5 of document 01: the dispatch test.
 ghost use mathlib.Core.Path.{_≡_};
 ghost use mathlib.Core.Bool.{not, _&&_};
-ghost use lib.Bits.{bitOr};
-ghost use Rattle.bits.specs.Words.{meets};
 ghost use Rattle.class_word.specs.Word.{has, VARIABLE, UNCLASSIFIED, «EA_INDEXED», «USES_CCR_LATE»};
-ghost use Rattle.window.specs.Dispatch.{memory, isSimple, lateCcr, secondMemory, passes};
+ghost use Rattle.window.specs.Dispatch.{memory, isSimple, failing, passes};
 use crate::Window;
 use crate::raw::RawCount;
 use class_word::F_EA_INDEXED;
@@ -35,6 +33,22 @@ pub struct Controls {
     pub ppc: u32,
     pub pc: u32,
     pub raw: RawCount,
+}
+
+// The rules of the dispatch test, in order.
+pub enum Rule {
+    EssOn,
+    BothCached,
+    Simple,
+    RegistersFree,
+    NoLateCcr,
+    OneMemory,
+}
+
+// What the dispatch test finds: the first rule that fails, or none.
+pub enum Dispatch {
+    Passes,
+    Fails(Rule),
 }
 
 // The instruction has a memory operand.
@@ -96,39 +110,41 @@ fn second_memory(word: Info060, mem: bool) -> bool
     false
 }
 
-// The last three rules: what the follower would take from the head.
-fn takes_nothing(i: Instruction, w: Window) -> bool
-    ensures { λ r. ⌜ r
-        ≡ (not (meets (bitOr (i .uses) (i .defs)) (w .defs)) && not (lateCcr (i .word .0) w)
-        && not (secondMemory (i .word .0) w)) ⌝ }
+// The first rule that fails, if one does: the dispatch test goes by it, and so do document 02's reasons.
+pub fn failing(i: Instruction, k: Controls, w: Window) -> Dispatch
+    ensures { λ r. ⌜ r ≡ failing i k w ⌝ }
 {
+    if !k.ess {
+        return Dispatch::Fails(Rule::EssOn);
+    }
+    if !w.warm {
+        return Dispatch::Fails(Rule::BothCached);
+    }
+    if !k.cached {
+        return Dispatch::Fails(Rule::BothCached);
+    }
+    if !simple(i.word) {
+        return Dispatch::Fails(Rule::Simple);
+    }
     if (i.uses | i.defs) & w.defs != 0 {
-        return false;
+        return Dispatch::Fails(Rule::RegistersFree);
     }
     if late_ccr(i.word, w.ccr) {
-        return false;
+        return Dispatch::Fails(Rule::NoLateCcr);
     }
     if second_memory(i.word, w.mem) {
-        return false;
+        return Dispatch::Fails(Rule::OneMemory);
     }
-    true
+    Dispatch::Passes
 }
 
 // The first rule that fails refuses the pair.
 pub fn soep_dispatch_test(i: Instruction, k: Controls, w: Window) -> bool
     ensures { λ r. ⌜ r ≡ passes i k w ⌝ }
 {
-    if !k.ess {
-        return false;
+    let found = failing(i, k, w);
+    match found {
+        Dispatch::Passes => true,
+        Dispatch::Fails(_) => false,
     }
-    if !w.warm {
-        return false;
-    }
-    if !k.cached {
-        return false;
-    }
-    if !simple(i.word) {
-        return false;
-    }
-    takes_nothing(i, w)
 }

@@ -8,7 +8,10 @@ mod lent;
 mod raw;
 
 pub use dispatch::Controls;
+pub use dispatch::Dispatch;
 pub use dispatch::Instruction;
+pub use dispatch::Rule;
+pub use dispatch::failing;
 pub use dispatch::memory;
 pub use dispatch::soep_dispatch_test;
 pub use lent::break_060_pipeline;

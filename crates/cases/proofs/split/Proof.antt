@@ -22,6 +22,12 @@ u16-at-requires-2 c κs = search needs
 answers-room-requires : tie.Need-answers-room-requires
 answers-room-requires c κs = search needs
 
+u16-at-requires-3 : tie.Need-u16-at-requires-3
+u16-at-requires-3 c κs = search needs
+
+reasons-room-requires : tie.Need-reasons-room-requires
+reasons-room-requires c κs = search needs
+
 slice-aggregate-start : tie.Need-slice-aggregate-start
 slice-aggregate-start c = sym (length-take-le _ _ (search needs))
 
@@ -61,6 +67,8 @@ split-spec =
     room-of-requires
     u16-at-requires-2
     answers-room-requires
+    u16-at-requires-3
+    reasons-room-requires
     slice-aggregate-start
     shared-slice-read-start
     start-requires
