@@ -14,6 +14,10 @@ const uint32_t CRATE = TIMING_060_PROFILE_CRATE, MENDED = TIMING_060_PROFILE_MEN
 
 bool gives(timing_060_retired r, uint32_t clocks, uint32_t answer) { return r.clocks == clocks && r.answer == answer; }
 
+bool gives(timing_060_explained e, uint32_t clocks, uint32_t answer, uint32_t reason) {
+    return e.clocks == clocks && e.answer == answer && e.reason == reason;
+}
+
 bool head_is(const timing_060 &t, bool open, uint16_t op, uint32_t address) {
     return (timing_060_has_head(&t) != 0) == open && timing_060_head_opcode(&t) == op &&
            timing_060_head_address(&t) == address;
@@ -56,6 +60,29 @@ void answers() {
     timing_060 t = timing_060();
     for (const auto &m : MET)
         expect(gives(timing_060_retire(&t, 0x66FC, m.flags, m.ppc, m.ppc - 2, 10), m.clocks, m.answer), m.what);
+}
+
+// Why: MOVEQ into D0, ADD.B D0,D1, which reads D0, MOVEQ into D2, which pairs, and BRA, cold and predicted.
+void reasons() {
+    const uint16_t TAKEN = KEPT | TIMING_060_FLOWED;
+    const struct {
+        uint16_t op, flags;
+        uint32_t clocks, answer, reason;
+        char first; // letter of the reason's word
+    } MET[] = {
+        {0x7000, KEPT, 1, TIMING_060_NOT_CONSULTED, TIMING_060_REASON_WINDOW_SHUT, 'w'},
+        {0xD200, KEPT, 1, TIMING_060_NOT_CONSULTED, TIMING_060_REASON_REGISTER, 'r'},
+        {0x7400, KEPT, 0, TIMING_060_NOT_CONSULTED, TIMING_060_REASON_PAIRED, 'p'},
+        {0x60FE, TAKEN, 7, TIMING_060_MISS, TIMING_060_REASON_MISPREDICTED, 'm'},
+        {0x60FE, TAKEN, 1, TIMING_060_PREDICTED_TAKEN, TIMING_060_REASON_ALONE, 'a'},
+    };
+    timing_060 t = timing_060();
+    for (const auto &m : MET) {
+        const char *word = timing_060_reason_word(m.reason);
+        expect(word[0] == m.first, "the word of a reason");
+        expect(gives(timing_060_explain(&t, m.op, m.flags, 0x1000, 0x1000, 4), m.clocks, m.answer, m.reason), word);
+    }
+    expect(timing_060_reason_word(TIMING_060_REASONS)[0] == 'n', "the word of no reason");
 }
 
 // EOR.W D0,D1 and MOVE.W D1,D2, which reads what the EOR writes; and CMPM.B (A0)+,(A1)+, of which the crate's profile
@@ -103,6 +130,16 @@ void runs() {
     expect(is(ran, ACCEPTED, 0, 2, 2), "a trace");
     expect(bytes[0] == 1 && bytes[1] == 0 && bytes[4] == 1 && bytes[5] == 0, "its costs");
     expect(told[0] == 3 && told[1] == 0 && told[2] == 1, "its answers");
+    uint8_t why[3] = {9, 9, 9};
+    timing_060 fresh = timing_060();
+    ran = timing_060_explain_trace(&fresh, TRACE, sizeof TRACE, bytes, sizeof bytes, told, sizeof told, why, 1);
+    expect(is(ran, TIMING_060_REFUSED_ROOM, sizeof TRACE, 0, 0), "a trace with too little room for reasons");
+    expect(why[0] == 9 && told[0] == 3, "what it leaves");
+    ran = timing_060_explain_trace(&fresh, TRACE, sizeof TRACE, bytes, sizeof bytes, told, sizeof told, why, 3);
+    expect(is(ran, ACCEPTED, 0, 2, 8), "an explained trace");
+    expect(bytes[0] == 7 && bytes[4] == 1 && told[0] == 1 && told[1] == 0, "its costs and its answers");
+    expect(why[0] == TIMING_060_REASON_MISPREDICTED && why[1] == TIMING_060_REASON_WINDOW_SHUT, "its reasons");
+    expect(why[2] == 9, "the byte beyond them");
     expect(is(timing_060_image_write(&t, image, sizeof image), ACCEPTED, 0, sizeof image, 0), "an image written");
     expect(is(timing_060_image_read(&read, image, sizeof image), ACCEPTED, 0, 0, 0), "an image read");
     expect(read.window[TIMING_060_WINDOW_DEFS] == 1, "the window of an image");
@@ -147,6 +184,9 @@ void lent() {
     expect(timing_060_retire_at(t.tags, t.state, t.window, MENDED, 0x7000, KEPT, 0x1000, 0x1002, 4) == 1, "a step");
     const uint64_t bra = timing_060_retire_at(t.tags, t.state, t.window, CRATE, 0x60FE, 31, 0x1004, 0x1004, 10);
     expect(bra == ((uint64_t)TIMING_060_MISS << 32 | 7), "a step with an answer");
+    const uint64_t why = timing_060_explain_at(t.tags, t.state, t.window, CRATE, 0x60FE, 31, 0x1004, 0x1004, 10);
+    const uint64_t answer = TIMING_060_PREDICTED_TAKEN, reason = TIMING_060_REASON_ALONE;
+    expect(why == (reason << 40 | answer << 32 | 1), "a step with a reason");
     timing_060_break_at(t.window);
     timing_060_clear_user_at(t.state, t.window);
     timing_060_clear_all_at(t.state, t.window);
@@ -156,6 +196,8 @@ void lent() {
     timing_060_words_mut places = {&place, 1};
     timing_060_ran ran = timing_060_run_trace_at(no_bytes, no_room, t.tags, t.state, t.window, CRATE, no_room);
     expect(is(ran, ACCEPTED, 0, 0, 0), "no trace");
+    ran = timing_060_explain_trace_at(no_bytes, no_room, t.tags, t.state, t.window, MENDED, no_room, told_room);
+    expect(is(ran, ACCEPTED, 0, 0, 0) && told == 9, "no trace to explain");
     ran = timing_060_run_batch_at(no_words, places, t.tags, t.state, t.window, MENDED, told_room);
     expect(is(ran, ACCEPTED, 0, 0, 0), "no batch");
     expect(place == 9 && told == 9, "the places of no batch");
@@ -170,6 +212,7 @@ void lent() {
 static int host(void) {
     steps();
     answers();
+    reasons();
     profiles();
     runs();
     heads();

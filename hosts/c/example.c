@@ -1,7 +1,7 @@
 /* An example host. It retires the four instructions of document 01's worked trace one by one, and prints the lines that
- * the cost lister prints for them, and then what the branch cache predicted of each. It goes on with every other
- * function of timing_060.h, in both profiles, and holds what they give against that: where anything differs it says so,
- * and its exit status is 1.
+ * the cost lister prints for them, then what the branch cache predicted of each, and then, from a run that explains
+ * them, why each cost what it did. It goes on with every other function of timing_060.h, in both profiles, and holds
+ * what they give against that: where anything differs it says so, and its exit status is 1.
  *
  * On x86-64, in this folder, after `tools/install PREFIX`, where pkg-config looks into PREFIX/lib/pkgconfig:
  *     cc -o example example.c $(pkg-config --cflags --libs timing_060)
@@ -23,6 +23,11 @@ static void print_opcode(uint16_t op) {
 static const char *words_of(uint32_t answer) {
     static const char *const WORDS[] = {"not consulted", "miss", "predicted not taken", "predicted taken"};
     return answer < 4 ? WORDS[answer] : "no answer";
+}
+
+static int same_text(const char *a, const char *b) {
+    while (*a && *a == *b) a++, b++;
+    return *a == *b;
 }
 
 static int same_window(const timing_060 *a, const timing_060 *b) {
@@ -49,6 +54,21 @@ enum {
     MISS = TIMING_060_MISS,
     NOT_TAKEN = TIMING_060_PREDICTED_NOT_TAKEN,
     PREDICTED = TIMING_060_PREDICTED_TAKEN,
+    /* why, by shorter names */
+    PAIRED = TIMING_060_REASON_PAIRED,
+    SHUT = TIMING_060_REASON_WINDOW_SHUT,
+    ESS_OFF = TIMING_060_REASON_ESS_OFF,
+    NOT_CACHED = TIMING_060_REASON_NOT_CACHED,
+    NOT_SIMPLE = TIMING_060_REASON_NOT_SIMPLE,
+    REGISTER = TIMING_060_REASON_REGISTER,
+    CCR = TIMING_060_REASON_CCR,
+    MEMORY = TIMING_060_REASON_MEMORY,
+    REFILL = TIMING_060_REASON_REFILL,
+    FOLDED = TIMING_060_REASON_FOLDED,
+    ALONE = TIMING_060_REASON_ALONE,
+    RIGHTLY_NOT = TIMING_060_REASON_NOT_TAKEN,
+    MISPREDICTED = TIMING_060_REASON_MISPREDICTED,
+    STATIC = TIMING_060_REASON_STATIC,
     /* what can be refused here, by shorter names */
     OK = TIMING_060_ACCEPTED,
     OVERSIZED = TIMING_060_REFUSED_OVERSIZED,
@@ -79,6 +99,7 @@ static const uint8_t WORKED_BYTES[TIMING_060_RECORD_BYTES * INSTRUCTIONS] = {
 };
 static const uint32_t CLOCKS[INSTRUCTIONS] = {1, 0, 7, 1};
 static const uint8_t ANSWERS[INSTRUCTIONS] = {NONE, NONE, MISS, PREDICTED};
+static const uint8_t REASONS[INSTRUCTIONS] = {SHUT, PAIRED, MISPREDICTED, ALONE};
 
 /* How its line starts. */
 static void print_instruction(int i) {
@@ -118,13 +139,37 @@ static void step_by_step(timing_060 *t) {
     }
 }
 
-/* A refused trace or batch writes no number: neither run, nor a state, not even a window that is read as another's. */
+/* Why each cost what it did: the trace once more, explained. What is beyond the last cost, answer and reason stays. */
+static void explained(const timing_060 *stepped) {
+    enum { N = INSTRUCTIONS };
+    static timing_060 t;
+    static uint8_t bytes[TIMING_060_COST_BYTES * N + 1], answers[N + 1], reasons[N + 1];
+    bytes[4 * N] = answers[N] = reasons[N] = 99;
+    timing_060_fresh(&t, CRATE);
+    timing_060_ran ran = timing_060_explain_trace(&t, WORKED_BYTES, sizeof WORKED_BYTES, bytes, sizeof bytes, answers,
+                                                  sizeof answers, reasons, sizeof reasons);
+    expect(is(ran, OK, 0, 4, 9), "what the explained trace gives");
+    expect(same_state(&t, stepped), "the state after the explained trace");
+    print("index opcode reason\n");
+    for (int i = 0; i < N; i++) {
+        print_instruction(i);
+        print(timing_060_reason_word(reasons[i]));
+        print("\n");
+        expect(reasons[i] == REASONS[i] && answers[i] == ANSWERS[i], "a reason of the explained trace, or an answer");
+    }
+    for (int i = 0; i < 4 * N; i++) expect(bytes[i] == (i % 4 ? 0 : CLOCKS[i / 4]), "a cost of the explained trace");
+    expect(bytes[4 * N] == 99 && answers[N] == 99 && reasons[N] == 99, "the bytes beyond what was explained");
+}
+
+/* A refused trace or batch writes no number: no lent run, nor a state, not even a window that is read as another's. */
 static void refused_writes_nothing(void) {
     static const uint16_t WINDOWS[2][TIMING_060_WINDOW] = {{2, 0, 5, 0, 9, 0x7000, 0x1000, 1},
                                                            {0, 1, 3, 0, 0xFFFF, 0x7000, 0x1000, 1}};
     enum { N = INSTRUCTIONS, BYTES = sizeof WORKED_BYTES };
+    static const uint64_t ROOMS[][3] = {{4 * N - 1, N, N}, {4 * N, N - 1, N}, {4 * N, N, N - 1}, {0, N, N},
+                                        {4 * N, 0, N},     {4 * N, N, 0},     {0, 0, 0}};
     static timing_060 t, given;
-    static uint8_t bytes[TIMING_060_COST_BYTES * N], answers[N];
+    static uint8_t bytes[TIMING_060_COST_BYTES * N], answers[N], reasons[N];
     static uint32_t places[N];
     timing_060_ran ran;
     for (int w = 0; w < 2; w++) {
@@ -138,6 +183,14 @@ static void refused_writes_nothing(void) {
         ran = timing_060_run_trace(&t, WORKED_BYTES, BYTES, bytes, sizeof bytes, answers, N - 1);
         expect(is(ran, ROOM, BYTES, 0, 0), "the refusal of a trace with too little room for answers");
         expect(same_state(&t, &given), "the numbers after a refused trace");
+        ran = timing_060_explain_trace(&t, WORKED_BYTES, BYTES - 1, bytes, 0, answers, 0, reasons, 0);
+        expect(is(ran, CUT, 60, 0, 0), "the refusal of a cut trace to be explained");
+        for (size_t i = 0; i < sizeof ROOMS / sizeof ROOMS[0]; i++) {
+            const uint64_t *room = ROOMS[i];
+            ran = timing_060_explain_trace(&t, WORKED_BYTES, BYTES, bytes, room[0], answers, room[1], reasons, room[2]);
+            expect(is(ran, ROOM, BYTES, 0, 0), "the refusal of a trace with too little room to be explained");
+        }
+        expect(same_state(&t, &given), "the numbers after a refused trace that was to be explained");
         ran = timing_060_run_batch(&t, WORKED, N, places, 0, answers, N);
         expect(is(ran, ROOM, 0, 0, 0), "the refusal of a batch on any window");
         ran = timing_060_run_batch(&t, WORKED, N, places, N, answers, N - 1);
@@ -150,7 +203,7 @@ static void refused_writes_nothing(void) {
         expect(same_state(&t, &given), "the numbers after an oversized batch");
     }
     for (int i = 0; i < N; i++) {
-        expect(places[i] == 0 && answers[i] == 0, "the places after a refusal");
+        expect(places[i] == 0 && answers[i] == 0 && reasons[i] == 0, "the places after a refusal");
         for (int j = 0; j < 4; j++) expect(bytes[4 * i + j] == 0, "the bytes after a refusal");
     }
 }
@@ -246,6 +299,107 @@ static void met_branches(uint32_t profile) {
     timing_060_clear_all(&t);
     timing_060_retired cold = timing_060_retire(&t, 0x66FC, TAKEN, 0x1008, 0x1006, 10);
     expect(cold.clocks == 7 && cold.answer == MISS, "a branch after a clear of all");
+}
+
+/* One retirement after the other, which come to each reason: the window that one leaves is the one that the next meets.
+ * Explained in steps and as a trace. */
+enum { WHYS = 28, NO_ESS = KEPT & ~TIMING_060_ESS, FETCHED = KEPT & ~TIMING_060_CACHED };
+static const struct {
+    timing_060_record record;
+    uint8_t clocks, answer, reason;
+} WHY[WHYS] = {
+    {{0x7000, KEPT, 0x1000, 0x1002, 4}, 1, NONE, SHUT},                /* MOVEQ #0,D0 */
+    {{0x7200, KEPT, 0x1002, 0x1004, 4}, 0, NONE, PAIRED},              /* MOVEQ #0,D1 */
+    {{0x7000, KEPT, 0x1004, 0x1006, 4}, 1, NONE, SHUT},                /* the pair left no head */
+    {{0x7200, NO_ESS, 0x1006, 0x1008, 4}, 1, NONE, ESS_OFF},           /* ESS is off; it is the next head */
+    {{0x7400, FETCHED, 0x1008, 0x100A, 4}, 1, NONE, NOT_CACHED},       /* it was not cached */
+    {{0x7600, KEPT, 0x100A, 0x100C, 4}, 1, NONE, NOT_CACHED},          /* its head was not */
+    {{0x4E71, KEPT, 0x100C, 0x100E, 4}, 1, NONE, NOT_SIMPLE},          /* NOP is of class 1, and no head */
+    {{0x7000, KEPT, 0x100E, 0x1010, 4}, 1, NONE, SHUT},                /* MOVEQ #0,D0 */
+    {{0x3230, KEPT, 0x1010, 0x1014, 14}, 2, NONE, NOT_SIMPLE},         /* MOVE.W (d8,A0,Xn),D1 is indexed */
+    {{0xD200, KEPT, 0x1014, 0x1016, 4}, 1, NONE, REGISTER},            /* ADD.B D0,D1: the head writes D1 */
+    {{0x57C0, KEPT, 0x1016, 0x1018, 4}, 1, NONE, CCR},                 /* SEQ D0: ADD sets the CCR */
+    {{0x3410, KEPT, 0x1018, 0x101A, 8}, 0, NONE, PAIRED},              /* MOVE.W (A0),D2 */
+    {{0x3410, KEPT, 0x101A, 0x101C, 8}, 1, NONE, SHUT},                /* once more */
+    {{0x3211, KEPT, 0x101C, 0x101E, 8}, 1, NONE, MEMORY},              /* MOVE.W (A1),D1: memory behind memory */
+    {{0x4E75, TAKEN, 0x101E, 0x2000, 16}, 5, NONE, REFILL},            /* RTS changes the flow, and is no branch */
+    {{0x66FC, NO_EBC, 0x2008, 0x2006, 10}, 7, NONE, STATIC},           /* BNE, EBC is off */
+    {{0x66FC, KEPT, 0x2008, 0x200A, 8}, 1, MISS, RIGHTLY_NOT},         /* a cold slot, and it is not taken */
+    {{0x66FC, TAKEN, 0x2008, 0x2006, 10}, 7, MISS, MISPREDICTED},      /* a cold slot, and it is */
+    {{0x66FC, TAKEN, 0x2008, 0x2006, 10}, 1, PREDICTED, ALONE},        /* a right guess, and no head */
+    {{0x7000, KEPT, 0x2006, 0x2008, 4}, 1, NONE, SHUT},                /* MOVEQ #0,D0 */
+    {{0x66FC, TAKEN, 0x2008, 0x2006, 10}, 0, PREDICTED, FOLDED},       /* a right guess behind it */
+    {{0x66FC, KEPT, 0x2008, 0x200A, 8}, 7, PREDICTED, MISPREDICTED},   /* a wrong guess of taken */
+    {{0x66FC, KEPT, 0x2008, 0x200A, 8}, 7, PREDICTED, MISPREDICTED},   /* once more, and the guess turns */
+    {{0x66FC, KEPT, 0x2008, 0x200A, 8}, 1, NOT_TAKEN, RIGHTLY_NOT},    /* a right guess of not taken */
+    {{0x66FC, TAKEN, 0x2008, 0x2006, 10}, 7, NOT_TAKEN, MISPREDICTED}, /* a wrong one */
+    {{0x51C8, FETCHED, 0x200A, 0x2000, 10}, 2, NONE, STATIC},          /* DBF, not cached, loops */
+    {{0x51C8, FETCHED, 0x200A, 0x200E, 14}, 3, NONE, STATIC},          /* and ends */
+    {{0x4E75, TAKEN, 0x200E, 0x3000, -1}, 5, NONE, REFILL},            /* RTS */
+};
+
+/* In the trace a break goes before each that finds the window shut: it changes nothing, and has no reason. */
+static void each_reason(uint32_t profile) {
+    static timing_060 t, stepped;
+    static uint8_t trace[(TIMING_060_RECORD_BYTES + 4) * WHYS], bytes[TIMING_060_COST_BYTES * WHYS];
+    static uint8_t answers[WHYS], reasons[WHYS];
+    unsigned counts[TIMING_060_REASONS] = {0};
+    uint64_t size = 0, total = 0;
+    timing_060_fresh(&stepped, profile);
+    for (int i = 0; i < WHYS; i++) {
+        const timing_060_record *r = &WHY[i].record;
+        timing_060_explained e = timing_060_explain(&stepped, r->op, r->flags, r->ppc, r->pc, r->raw);
+        expect(e.clocks == WHY[i].clocks && e.answer == WHY[i].answer, "the clocks and the answer of a reason");
+        expect(e.reason == WHY[i].reason, timing_060_reason_word(WHY[i].reason));
+        counts[WHY[i].reason]++;
+        total += e.clocks;
+        if (WHY[i].reason == SHUT) trace[size + 2] = 2, size += 4;
+        put_record(trace + size, r);
+        size += TIMING_060_RECORD_BYTES;
+    }
+    for (int i = 0; i < TIMING_060_REASONS; i++) expect(counts[i] > 0, "each reason is met");
+    timing_060_fresh(&t, profile);
+    timing_060_ran ran;
+    ran = timing_060_explain_trace(&t, trace, size, bytes, sizeof bytes, answers, sizeof answers, reasons, WHYS);
+    expect(is(ran, OK, 0, WHYS, total), "what the trace of each reason gives");
+    expect(same_state(&t, &stepped), "the state after the trace of each reason");
+    for (int i = 0; i < WHYS; i++) {
+        expect(bytes[4 * i] == WHY[i].clocks && answers[i] == WHY[i].answer, "the clocks and the answer, in a trace");
+        expect(reasons[i] == WHY[i].reason, "the reason, in a trace");
+    }
+}
+
+/* What is proved of the clocks of a reason. */
+static int costs_so(uint32_t reason, uint32_t clocks) {
+    if (reason == PAIRED || reason == FOLDED) return clocks == 0;
+    if (reason == ALONE || reason == RIGHTLY_NOT) return clocks == 1;
+    return reason == MISPREDICTED ? clocks == 7 : clocks > 0;
+}
+
+/* Each opcode, with flags of all kinds: explained it gives what a step gives, leaves what a step leaves, costs what its
+ * reason says, and where that is a register has one in common with the head. */
+static void explained_opcodes(uint32_t profile) {
+    static timing_060 t, plain;
+    int same = 1, known = 1, so = 1, shared = 1;
+    timing_060_fresh(&t, profile);
+    timing_060_fresh(&plain, profile);
+    for (uint32_t i = 0; i < 4 * 65536; i++) {
+        /* mostly cached, with ESS and EBC on, and few changes of flow */
+        const uint16_t op = (uint16_t)(i * 40503), flags = (uint16_t)(i % 7 ? KEPT | (i % 5 == 0) : i >> 3 & 31);
+        const uint32_t ppc = 2 * (i % 600), pc = ppc + 2 + (i & 2);
+        const timing_060_masks m = timing_060_masks_of(op, profile);
+        const int common = (m.uses | m.defs) & t.window[TIMING_060_WINDOW_DEFS];
+        const timing_060_retired r = timing_060_retire(&plain, op, flags, ppc, pc, 20);
+        const timing_060_explained e = timing_060_explain(&t, op, flags, ppc, pc, 20);
+        same &= e.clocks == r.clocks && e.answer == r.answer && same_window(&t, &plain);
+        known &= e.reason < TIMING_060_REASONS;
+        so &= costs_so(e.reason, e.clocks);
+        if (e.reason == REGISTER) shared &= common != 0;
+        if (e.reason == PAIRED || e.reason == CCR || e.reason == MEMORY) shared &= common == 0;
+    }
+    expect(same && same_state(&t, &plain), "explained steps against steps");
+    expect(known && so, "the clocks of a reason");
+    expect(shared, "the registers of a reason");
 }
 
 /* The clocks alone. */
@@ -445,17 +599,31 @@ static void next_heads(void) {
     expect(head_is(&t, 1, 0x7000, 0x1000), "the head after a batch");
 }
 
+/* The words, of the first and the last reason, and of numbers that are none's. */
+static void reason_words(void) {
+    expect(same_text(timing_060_reason_word(PAIRED), "paired"), "the word of the first reason");
+    expect(same_text(timing_060_reason_word(STATIC), "static"), "the word of the last reason");
+    expect(same_text(timing_060_reason_word(TIMING_060_REASONS), "no reason"), "the word of no reason");
+    expect(same_text(timing_060_reason_word(0xFFFFFFFF), "no reason"), "the word of no reason");
+}
+
 /* An RTS that flowed, with a raw count below 0, and flag bits above bit 4: not looked at, but in a trace refused. */
 static void flags(timing_060 *t) {
     static const timing_060_record RTS = {0x4E75, 0xFFE0 | TAKEN, 0x3000, 0x4000, -1};
     static const uint8_t RTS_BYTES[TIMING_060_RECORD_BYTES] = {0x10, 0, 1, 0, 0x75, 0x4E, 0x3F};
     uint32_t clocks = 0;
-    uint8_t bytes[TIMING_060_COST_BYTES], answer = 99;
+    uint8_t bytes[TIMING_060_COST_BYTES], answer = 99, reason = 99;
     expect(retire_one(t, &RTS) == 5, "the clocks of RTS");
+    timing_060_explained e = timing_060_explain(t, RTS.op, RTS.flags, RTS.ppc, RTS.pc, RTS.raw);
+    expect(e.clocks == 5 && e.answer == NONE && e.reason == REFILL, "RTS explained");
+    e = timing_060_explain(t, RTS.op, RTS.flags, RTS.ppc, RTS.pc, 0x7FFFFFFF);
+    expect(e.clocks == 0x1FFFFFFF && e.answer == NONE && e.reason == REFILL, "RTS of the most clocks, explained");
     timing_060_ran ran = timing_060_run_batch(t, &RTS, 1, &clocks, 1, &answer, 1);
     expect(is(ran, OK, 0, 1, 5) && clocks == 5 && answer == NONE, "the batch of RTS");
     ran = timing_060_run_trace(t, RTS_BYTES, sizeof RTS_BYTES, bytes, sizeof bytes, &answer, 1);
     expect(is(ran, FLAG, 0, 0, 0), "the refusal of a flag");
+    ran = timing_060_explain_trace(t, RTS_BYTES, sizeof RTS_BYTES, bytes, sizeof bytes, &answer, 1, &reason, 1);
+    expect(is(ran, FLAG, 0, 0, 0) && reason == 99, "the refusal of a flag, explained");
 }
 
 /* EOR.W D0,D1 and MOVE.W D1,D2, which reads what the EOR writes: the crate's profile pairs them, the mended not. */
@@ -472,7 +640,7 @@ static const uint32_t NUMBER[NUMBERS] = {CRATE, MENDED, 2, 0x10001, 0xFFFFFFFF};
 /* Each through every function that looks at it; only a fresh state sets it. */
 static void profiles(void) {
     static timing_060 t;
-    static uint8_t bytes[2 * TIMING_060_COST_BYTES], answers[2], image[IMAGE];
+    static uint8_t bytes[2 * TIMING_060_COST_BYTES], answers[2], reasons[2], image[IMAGE];
     static uint32_t places[2];
     for (int i = 0; i < NUMBERS; i++) {
         const uint32_t profile = NUMBER[i], second = profile == MENDED;
@@ -484,12 +652,19 @@ static void profiles(void) {
         expect(retire_one(&t, &OVER_PAIRED[1]) == second, "the clocks behind EOR");
         timing_060_image_read(&t, image, IMAGE);
         expect(retire_one(&t, &OVER_PAIRED[1]) == second, "the clocks behind EOR, from an image");
+        timing_060_image_read(&t, image, IMAGE);
+        timing_060_explained e = timing_060_explain(&t, 0x3401, KEPT, 0x1002, 0x1004, 4);
+        expect(e.clocks == second && e.reason == (second ? REGISTER : PAIRED), "the reason behind EOR");
         timing_060_break(&t);
         timing_060_clear_user(&t);
         timing_060_clear_all(&t);
         timing_060_ran ran;
         ran = timing_060_run_trace(&t, OVER_PAIRED_BYTES, sizeof OVER_PAIRED_BYTES, bytes, sizeof bytes, answers, 2);
         expect(is(ran, OK, 0, 2, 1 + second) && bytes[0] == 1 && bytes[4] == second, "the trace of EOR");
+        timing_060_break(&t);
+        ran = timing_060_explain_trace(&t, OVER_PAIRED_BYTES, sizeof OVER_PAIRED_BYTES, bytes, sizeof bytes, answers, 2,
+                                       reasons, 2);
+        expect(is(ran, OK, 0, 2, 1 + second) && reasons[1] == (second ? REGISTER : PAIRED), "the reasons of EOR");
         timing_060_break(&t);
         ran = timing_060_run_batch(&t, OVER_PAIRED, 2, places, 2, answers, 2);
         expect(is(ran, OK, 0, 2, 1 + second) && places[0] == 1 && places[1] == second, "the batch of EOR");
@@ -550,6 +725,7 @@ static int host(void) {
     static timing_060 t;
     timing_060_fresh(&t, CRATE);
     step_by_step(&t);
+    explained(&t);
     runs(&t);
 
     t.state[7] = 12;
@@ -569,6 +745,11 @@ static int host(void) {
     next_heads();
     met_branches(CRATE);
     met_branches(MENDED);
+    each_reason(CRATE);
+    each_reason(MENDED);
+    explained_opcodes(CRATE);
+    explained_opcodes(MENDED);
+    reason_words();
     flags(&t);
     profiles();
     opcodes();

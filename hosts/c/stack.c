@@ -6,7 +6,7 @@
 
 #include "system.h"
 
-enum { DEEP = 65536, PAINT = 0xA5, INSTRUCTIONS = 65536, PROFILES = 2 };
+enum { DEEP = 65536, PAINT = 0xA5, OPCODES = 65536, INSTRUCTIONS = 2 * OPCODES, PROFILES = 2 };
 
 static uint8_t stack[DEEP] __attribute__((aligned(16)));
 static timing_060 t;
@@ -15,6 +15,7 @@ static uint8_t trace[TIMING_060_RECORD_BYTES * INSTRUCTIONS + 12];
 static uint8_t bytes[TIMING_060_COST_BYTES * INSTRUCTIONS];
 static uint32_t places[INSTRUCTIONS];
 static uint8_t answers[INSTRUCTIONS];
+static uint8_t reasons[INSTRUCTIONS];
 static uint8_t image[TIMING_060_IMAGE_BYTES];
 static volatile uint64_t given; /* so that no call is left out */
 
@@ -34,15 +35,18 @@ static uint64_t used(void (*call)(void)) {
     return DEEP - i;
 }
 
-/* Every opcode, each a change of flow and in user mode, and behind them each other kind of record. */
+/* Every opcode twice, as a change of flow and as none, in user mode; the first half of the instructions flows. */
+static uint16_t flags_of(uint32_t i) { return i < OPCODES ? 15 : 14; }
+
+/* These, and behind them each other kind of record. */
 static void fill(void) {
     static const uint8_t others[12] = {0, 0, 2, 0, 0, 0, 3, 0, 0, 0, 4, 0};
     for (uint32_t i = 0; i < INSTRUCTIONS; i++) {
         uint8_t *r = trace + TIMING_060_RECORD_BYTES * i;
-        timing_060_record w = {(uint16_t)i, 15, 2 * i, 0, 100};
+        timing_060_record w = {(uint16_t)i, flags_of(i), 2 * i, 0, 100};
         records[i] = w;
-        r[0] = 16, r[2] = 1, r[4] = (uint8_t)i, r[5] = (uint8_t)(i >> 8), r[6] = 15, r[8] = (uint8_t)(2 * i);
-        r[9] = (uint8_t)(i >> 7), r[16] = 100;
+        r[0] = 16, r[2] = 1, r[4] = (uint8_t)i, r[5] = (uint8_t)(i >> 8), r[6] = (uint8_t)flags_of(i);
+        r[8] = (uint8_t)(2 * i), r[9] = (uint8_t)(i >> 7), r[16] = 100;
     }
     for (uint32_t i = 0; i < sizeof others; i++) trace[TIMING_060_RECORD_BYTES * INSTRUCTIONS + i] = others[i];
 }
@@ -51,23 +55,38 @@ static void fresh(void) { timing_060_fresh(&t, TIMING_060_PROFILE_CRATE); }
 static void retire(void) {
     for (t.profile = 0; t.profile < PROFILES; t.profile++)
         for (uint32_t i = 0; i < INSTRUCTIONS; i++) {
-            const timing_060_retired r = timing_060_retire(&t, (uint16_t)i, 15, 2 * i, 0, 100);
+            const timing_060_retired r = timing_060_retire(&t, (uint16_t)i, flags_of(i), 2 * i, 0, 100);
             given = r.clocks + r.answer;
+        }
+}
+static void explain(void) {
+    for (t.profile = 0; t.profile < PROFILES; t.profile++)
+        for (uint32_t i = 0; i < INSTRUCTIONS; i++) {
+            const timing_060_explained e = timing_060_explain(&t, (uint16_t)i, flags_of(i), 2 * i, 0, 100);
+            given = e.clocks + e.answer + e.reason;
         }
 }
 static void break_pipeline(void) { timing_060_break(&t); }
 static void clear_all(void) { timing_060_clear_all(&t); }
 static void clear_user(void) { timing_060_clear_user(&t); }
 static void class_word(void) {
-    for (uint32_t i = 0; i < PROFILES * INSTRUCTIONS; i++) given = timing_060_class_word((uint16_t)i, i >> 16);
+    for (uint32_t i = 0; i < PROFILES * OPCODES; i++) given = timing_060_class_word((uint16_t)i, i >> 16);
 }
 static void masks_of(void) {
-    for (uint32_t i = 0; i < PROFILES * INSTRUCTIONS; i++) given = timing_060_masks_of((uint16_t)i, i >> 16).uses;
+    for (uint32_t i = 0; i < PROFILES * OPCODES; i++) given = timing_060_masks_of((uint16_t)i, i >> 16).uses;
 }
 static void run_trace(void) {
     for (t.profile = 0; t.profile < PROFILES; t.profile++) {
         given = timing_060_run_trace(&t, trace, sizeof trace, bytes, sizeof bytes, answers, sizeof answers).count;
         expect(given == INSTRUCTIONS, "the trace's count");
+    }
+}
+static void explain_trace(void) {
+    for (t.profile = 0; t.profile < PROFILES; t.profile++) {
+        const timing_060_ran ran = timing_060_explain_trace(&t, trace, sizeof trace, bytes, sizeof bytes, answers,
+                                                            sizeof answers, reasons, sizeof reasons);
+        given = ran.count;
+        expect(given == INSTRUCTIONS, "the explained trace's count");
     }
 }
 static void run_batch(void) {
@@ -91,6 +110,7 @@ static const struct {
 } CALLS[] = {
     {"fresh", fresh, 256},
     {"retire", retire, 256},
+    {"explain", explain, 1536},
     {"break", break_pipeline, 256},
     {"clear_all", clear_all, 256},
     {"clear_user", clear_user, 256},
@@ -100,6 +120,7 @@ static const struct {
     {"image_write", image_write, 1536},
     {"image_read", image_read, 1536},
     {"run_trace", run_trace, 3072},
+    {"explain_trace", explain_trace, 4608},
 };
 
 static int host(void) {

@@ -7,9 +7,9 @@
 #include <stddef.h>
 #include <stdint.h>
 
-#define TIMING_060_VERSION "0.5.0"
+#define TIMING_060_VERSION "0.6.0"
 #define TIMING_060_VERSION_MAJOR 0
-#define TIMING_060_VERSION_MINOR 5
+#define TIMING_060_VERSION_MINOR 6
 #define TIMING_060_VERSION_PATCH 0
 
 /* The limits. */
@@ -18,10 +18,12 @@
 #define TIMING_060_RECORD_BYTES 20       /* a retirement in a trace, with its header of 4 bytes */
 #define TIMING_060_COST_BYTES 4          /* the room that a retirement of a trace needs for its clocks */
 #define TIMING_060_ANSWER_BYTES 1        /* the room that a retirement needs for its answer, in a batch, too */
+#define TIMING_060_REASON_BYTES 1        /* the room that a retirement of an explained trace needs for its reason */
 #define TIMING_060_IMAGE_BYTES 1294      /* a state as an image, of kind 17 */
 #define TIMING_060_OLD_IMAGE_BYTES 1288  /* an image of kind 16, which is still read */
 #define TIMING_060_SLOTS 256             /* the slots of the branch cache */
 #define TIMING_060_WINDOW 8              /* the numbers of the window */
+#define TIMING_060_REASONS 14            /* the reasons, for a host that counts them */
 
 #ifdef __cplusplus
 extern "C" {
@@ -55,8 +57,8 @@ enum {
     TIMING_060_WINDOW_ADDRESS_HIGH = 7 /* bits 16 to 31 */
 };
 
-/* The flags of a retirement. Bits above these five are not looked at by timing_060_retire and timing_060_run_batch;
- * timing_060_run_trace refuses them. */
+/* The flags of a retirement. Bits above these five are not looked at by timing_060_retire, timing_060_explain and
+ * timing_060_run_batch; timing_060_run_trace and timing_060_explain_trace refuse them. */
 enum {
     TIMING_060_FLOWED = 1,     /* the instruction changed the flow */
     TIMING_060_CACHED = 2,     /* its opcode came from the instruction cache */
@@ -89,6 +91,34 @@ typedef struct timing_060_retired {
     uint32_t answer;
 } timing_060_retired;
 
+/* Why a retirement cost what it did: one reason fits each. 0 to 7 are for what is neither a branch nor a change of
+ * flow; of them 2 to 7 are the rules of the dispatch test, in its order, and the first that failed is told. 9 to 13 are
+ * for branches. Paired and folded cost 0, and nothing else does; alone and not taken cost 1, mispredicted 7. The other
+ * reasons fix no cost. */
+enum {
+    TIMING_060_REASON_PAIRED = 0,        /* it joined the head */
+    TIMING_060_REASON_WINDOW_SHUT = 1,   /* there was no head to join */
+    TIMING_060_REASON_ESS_OFF = 2,       /* PCR.ESS is off */
+    TIMING_060_REASON_NOT_CACHED = 3,    /* the head's opcode or its own did not come from the instruction cache */
+    TIMING_060_REASON_NOT_SIMPLE = 4,    /* it is not of class 0, or is EA_INDEXED, UNCLASSIFIED or VARIABLE */
+    TIMING_060_REASON_REGISTER = 5,      /* it uses or defines a register that the head defines */
+    TIMING_060_REASON_CCR = 6,           /* it uses the CCR late, and the head defines the CCR */
+    TIMING_060_REASON_MEMORY = 7,        /* it accesses memory, and so does the head */
+    TIMING_060_REASON_REFILL = 8,        /* it is no branch, and changed the flow */
+    TIMING_060_REASON_FOLDED = 9,        /* rightly predicted taken, and folded into an open window */
+    TIMING_060_REASON_ALONE = 10,        /* rightly predicted taken, and no window was open */
+    TIMING_060_REASON_NOT_TAKEN = 11,    /* rightly not taken: a miss counts as predicted not taken, here and below */
+    TIMING_060_REASON_MISPREDICTED = 12, /* it did not go as predicted */
+    TIMING_060_REASON_STATIC = 13        /* the cache was not asked: a static cost */
+};
+
+/* What an explained step gives: its clocks, the cache's answer, 0 to 3, and the reason, 0 to 13. */
+typedef struct timing_060_explained {
+    uint32_t clocks;
+    uint32_t answer;
+    uint32_t reason;
+} timing_060_explained;
+
 /* What a refusal can be, and its place. */
 enum {
     TIMING_060_ACCEPTED = 0,             /* nothing is refused; place 0 */
@@ -98,15 +128,15 @@ enum {
     TIMING_060_REFUSED_WRONG_LENGTH = 4, /* the record's length is not its kind's */
     TIMING_060_REFUSED_CUT = 5,          /* the record's payload is cut */
     TIMING_060_REFUSED_FLAG = 6,         /* a flag above bit 4 is set */
-    TIMING_060_REFUSED_ROOM = 7,         /* too little room: costs, answers or image; place: a trace's length, else 0 */
+    TIMING_060_REFUSED_ROOM = 7,         /* too little room was lent; place: a trace's length, else 0 */
     TIMING_060_REFUSED_IMAGE_LENGTH = 8, /* the image is neither 1,288 nor 1,294 bytes long; place 0 */
     TIMING_060_REFUSED_IMAGE_HEADER = 9, /* its header does not match its length; place 0 */
     TIMING_060_REFUSED_IMAGE_WINDOW = 10 /* its window, head included, is none that a state can have; place 1,284 */
 };
 
 /* What a run gives. A refusal is TIMING_060_ACCEPTED where there is none, else what it is, with its place; then count
- * and total are 0, and nothing at all is written: costs, answers, image, state and window keep every number. Only a
- * refused image that is read writes: a fresh state. */
+ * and total are 0, and nothing at all is written: costs, answers, reasons, image, state and window keep every number.
+ * Only a refused image that is read writes: a fresh state. */
 typedef struct timing_060_ran {
     uint64_t refusal;
     uint64_t place;
@@ -162,6 +192,10 @@ TIMING_060_AT(timing_060_record, raw, 12);
 TIMING_060_SIZE(timing_060_retired, 8);
 TIMING_060_AT(timing_060_retired, clocks, 0);
 TIMING_060_AT(timing_060_retired, answer, 4);
+TIMING_060_SIZE(timing_060_explained, 12);
+TIMING_060_AT(timing_060_explained, clocks, 0);
+TIMING_060_AT(timing_060_explained, answer, 4);
+TIMING_060_AT(timing_060_explained, reason, 8);
 TIMING_060_SIZE(timing_060_ran, 32);
 TIMING_060_AT(timing_060_ran, refusal, 0);
 TIMING_060_AT(timing_060_ran, place, 8);
@@ -195,6 +229,11 @@ void timing_060_fresh_at(uint32_t *tags, uint8_t *state, uint16_t *window);
 uint64_t timing_060_retire_at(uint32_t *tags, uint8_t *state, uint16_t *window, uint32_t profile, uint16_t op,
                               uint16_t flags, uint32_t ppc, uint32_t pc, int32_t raw);
 
+/* The same step, and why: the clocks in bits 0 to 31, the cache's answer in bits 32 to 39, the reason in bits 40 to 47,
+ * and zeros above. */
+uint64_t timing_060_explain_at(uint32_t *tags, uint8_t *state, uint16_t *window, uint32_t profile, uint16_t op,
+                               uint16_t flags, uint32_t ppc, uint32_t pc, int32_t raw);
+
 void timing_060_break_at(uint16_t *window);
 void timing_060_clear_all_at(uint8_t *state, uint16_t *window);
 void timing_060_clear_user_at(uint8_t *state, uint16_t *window);
@@ -203,6 +242,11 @@ void timing_060_clear_user_at(uint8_t *state, uint16_t *window);
 timing_060_ran timing_060_run_trace_at(timing_060_bytes trace, timing_060_bytes_mut costs, uint32_t *tags,
                                        uint8_t *state, uint16_t *window, uint32_t profile,
                                        timing_060_bytes_mut answers);
+
+/* The same run, and a reason for each retirement. */
+timing_060_ran timing_060_explain_trace_at(timing_060_bytes trace, timing_060_bytes_mut costs, uint32_t *tags,
+                                           uint8_t *state, uint16_t *window, uint32_t profile,
+                                           timing_060_bytes_mut answers, timing_060_bytes_mut reasons);
 
 /* Four words a record; words beyond the last whole record are not read. Flag bits above the five are not looked at. */
 timing_060_ran timing_060_run_batch_at(timing_060_words records, timing_060_words_mut costs, uint32_t *tags,
@@ -237,6 +281,26 @@ static inline timing_060_retired timing_060_retire(timing_060 *t, uint16_t op, u
     return r;
 }
 
+/* The same step, and why it cost what it did. It retires, so that an instruction goes through one of the two; who only
+ * asks explains it on a copy of the state. It takes more time: it is for whoever asks, not for every instruction. */
+static inline timing_060_explained timing_060_explain(timing_060 *t, uint16_t op, uint16_t flags, uint32_t ppc,
+                                                      uint32_t pc, int32_t raw) {
+    const uint64_t all = timing_060_explain_at(t->tags, t->state, t->window, t->profile, op, flags, ppc, pc, raw);
+    timing_060_explained e;
+    e.clocks = all & 0xFFFFFFFF;
+    e.answer = all >> 32 & 0xFF;
+    e.reason = all >> 40 & 0xFF;
+    return e;
+}
+
+/* A reason as a word, the one that the program `why` prints; "no reason" of a number that is none's. */
+static inline const char *timing_060_reason_word(uint32_t reason) {
+    static const char *const WORDS[TIMING_060_REASONS] = {
+        "paired", "window-shut", "ess-off", "not-cached", "not-simple", "register",     "ccr",
+        "memory", "refill",      "folded",  "alone",      "not-taken",  "mispredicted", "static"};
+    return reason < TIMING_060_REASONS ? WORDS[reason] : "no reason";
+}
+
 /* The pipeline breaks: the window is shut. */
 static inline void timing_060_break(timing_060 *t) { timing_060_break_at(t->window); }
 
@@ -262,6 +326,17 @@ static inline timing_060_ran timing_060_run_trace(timing_060 *t, const uint8_t *
     timing_060_bytes s = {trace, bytes};
     timing_060_bytes_mut c = {costs, room}, a = {answers, answers_room};
     return timing_060_run_trace_at(s, c, t->tags, t->state, t->window, t->profile, a);
+}
+
+/* The same run, which explains each retirement: 1 byte more for its reason, which timing_060_reason_word has in a word.
+ * Too little room for reasons is TIMING_060_REFUSED_ROOM, at the trace's length, as for costs and answers. It takes
+ * more time than the run does. */
+static inline timing_060_ran timing_060_explain_trace(timing_060 *t, const uint8_t *trace, uint64_t bytes,
+                                                      uint8_t *costs, uint64_t room, uint8_t *answers,
+                                                      uint64_t answers_room, uint8_t *reasons, uint64_t reasons_room) {
+    timing_060_bytes s = {trace, bytes};
+    timing_060_bytes_mut c = {costs, room}, a = {answers, answers_room}, r = {reasons, reasons_room};
+    return timing_060_explain_trace_at(s, c, t->tags, t->state, t->window, t->profile, a, r);
 }
 
 /* A batch of records into a place each for its clocks, and 1 byte for the cache's answer. Those beyond the last stay.

@@ -2,10 +2,11 @@
 //!
 //! [`Timing060`] is the timing state that an emulator keeps beside its CPU: a branch cache of 256 slots and the pairing
 //! window, in a [`Profile`] that is chosen at start. Each retired instruction goes through [`Timing060::retire`], which
-//! gives its clocks and what the branch cache predicted, an [`Answer`]. The work is done by a library whose every
-//! function is proved to meet its contract, libtiming_060.a; this crate adds the calls, and itself only takes the two
-//! numbers of a step apart and reads the head ([`Timing060::head`]). It cannot be misused: every state, instruction,
-//! trace and image has a result or a [`Refusal`].
+//! gives its clocks and what the branch cache predicted, an [`Answer`]. Where somebody asks why it cost that, it goes
+//! through [`Timing060::explain`] instead, which gives a [`Reason`], too. The work is done by a library whose every
+//! function is proved to meet its contract, libtiming_060.a; this crate adds the calls, and itself only takes the
+//! numbers of a step apart, has the reasons' words and reads the head ([`Timing060::head`]). It cannot be misused:
+//! every state, instruction, trace and image has a result or a [`Refusal`].
 //!
 //! The library is for x86-64 Linux. On other targets this crate is checked and documented, but nothing can be linked.
 //!
@@ -26,10 +27,12 @@
 #![warn(missing_docs)]
 
 mod answers;
+mod reasons;
 mod refusals;
 mod sys;
 
 pub use answers::Answer;
+pub use reasons::Reason;
 pub use refusals::{Refusal, Refused};
 
 /// The most bytes of a trace.
@@ -42,6 +45,8 @@ pub const RECORD_BYTES: usize = 20;
 pub const COST_BYTES: usize = 4;
 /// The room that a retirement needs for its answer, in a batch, too.
 pub const ANSWER_BYTES: usize = 1;
+/// The room that a retirement of an explained trace needs for its reason.
+pub const REASON_BYTES: usize = 1;
 /// A state as an image, of kind 17.
 pub const IMAGE_BYTES: usize = 1294;
 /// An image of kind 16, which is still read.
@@ -104,6 +109,17 @@ pub struct Retired {
     pub clocks: u32,
     /// What the branch cache predicted of it.
     pub answer: Answer,
+}
+
+/// What an explained retirement gives.
+#[derive(Clone, Copy, Debug, PartialEq, Eq)]
+pub struct Explained {
+    /// Its clocks.
+    pub clocks: u32,
+    /// What the branch cache predicted of it.
+    pub answer: Answer,
+    /// Why it cost these clocks.
+    pub reason: Reason,
 }
 
 /// A retired instruction as a batch holds it: 16 bytes, as in a trace.
@@ -206,6 +222,32 @@ impl Timing060 {
         Retired { clocks: both as u32, answer }
     }
 
+    /// One retired instruction, as [`Timing060::retire`] has it, and why it cost what it did.
+    ///
+    /// It retires, so that an instruction goes through one of the two; who only asks explains it on a clone. It takes
+    /// more time than [`Timing060::retire`]: it is for whoever asks, not for every instruction.
+    ///
+    /// ```
+    /// use timing_060::{Flags, Profile, Reason, Retirement, Timing060};
+    ///
+    /// let mut timing = Timing060::new(Profile::Crate);
+    /// let flags = Flags { flowed: false, cached: true, ess: true, ebc: true, supervisor: true };
+    /// let moveq = timing.retire(Retirement { op: 0x7000, flags, ppc: 0x1000, pc: 0x1002, raw: 4 }); // MOVEQ #0,D0
+    /// let add = timing.explain(Retirement { op: 0xD200, flags, ppc: 0x1002, pc: 0x1004, raw: 4 }); // ADD.B D0,D1
+    /// assert_eq!((moveq.clocks, add.clocks), (1, 1));
+    /// assert_eq!(add.reason, Reason::Register); // it reads D0, which MOVEQ writes
+    /// assert_eq!(add.reason.to_string(), "register");
+    /// ```
+    #[inline]
+    pub fn explain(&mut self, r: Retirement) -> Explained {
+        let (tags, state, window) = (&mut self.tags, &mut self.state, &mut self.window);
+        let (profile, flags) = (self.profile as u32, r.flags.bits());
+        let all = unsafe { sys::timing_060_explain_at(tags, state, window, profile, r.op, flags, r.ppc, r.pc, r.raw) };
+        let answer = Answer::of((all >> 32) as u8).expect("the library's answers are proved to be 0 to 3");
+        let reason = Reason::of((all >> 40) as u8).expect("the library's reasons are proved to be 0 to 13");
+        Explained { clocks: all as u32, answer, reason }
+    }
+
     /// The pipeline breaks: the pairing window is shut, and nothing else changes.
     pub fn break_pipeline(&mut self) {
         unsafe { sys::timing_060_break_at(&mut self.window) }
@@ -228,6 +270,36 @@ impl Timing060 {
         let (s, c, a) = (sys::Shared::of(trace), sys::Lent::of(costs), sys::Lent::of(answers));
         let (tags, state, window) = (&mut self.tags, &mut self.state, &mut self.window);
         ran(unsafe { sys::timing_060_run_trace_at(s, c, tags, state, window, self.profile as u32, a) })
+    }
+
+    /// Runs a trace as [`Timing060::run_trace`] does, and explains it: for each retirement [`REASON_BYTES`] more, the
+    /// [`Reason::number`]. Bytes beyond the last reason stay. Too little room for reasons is [`Refusal::Room`], too. It
+    /// takes more time than the run does.
+    ///
+    /// ```
+    /// use timing_060::{Profile, Reason, Refused, Timing060};
+    ///
+    /// let trace = [
+    ///     16, 0, 1, 0, 0x00, 0x70, 0x1E, 0, 0x00, 0x10, 0, 0, 0x02, 0x10, 0, 0, 4, 0, 0, 0, // MOVEQ #0,D0
+    ///     16, 0, 1, 0, 0x00, 0x72, 0x1E, 0, 0x02, 0x10, 0, 0, 0x04, 0x10, 0, 0, 4, 0, 0, 0, // MOVEQ #0,D1
+    ///     0, 0, 2, 0, // a break, which is no retirement
+    /// ];
+    /// let (mut costs, mut answers, mut reasons) = ([0; 8], [0; 2], [0; 2]);
+    /// Timing060::new(Profile::Crate).explain_trace(&trace, &mut costs, &mut answers, &mut reasons)?;
+    /// assert_eq!(reasons.map(Reason::of), [Some(Reason::WindowShut), Some(Reason::Paired)]);
+    /// # Ok::<(), Refused>(())
+    /// ```
+    pub fn explain_trace(
+        &mut self,
+        trace: &[u8],
+        costs: &mut [u8],
+        answers: &mut [u8],
+        reasons: &mut [u8],
+    ) -> Result<Ran, Refused> {
+        let (s, c) = (sys::Shared::of(trace), sys::Lent::of(costs));
+        let (a, r) = (sys::Lent::of(answers), sys::Lent::of(reasons));
+        let (tags, state, window) = (&mut self.tags, &mut self.state, &mut self.window);
+        ran(unsafe { sys::timing_060_explain_trace_at(s, c, tags, state, window, self.profile as u32, a, r) })
     }
 
     /// Runs a batch of at most [`BATCH_RECORDS`]: for each record a place for its clocks, and [`ANSWER_BYTES`] for what

@@ -18,7 +18,7 @@ pub enum Refusal {
     Cut = 5,
     /// A flag above bit 4 is set.
     Flag = 6,
-    /// Too little room was lent: for costs or for answers.
+    /// Too little room was lent: for costs, answers or reasons.
     Room = 7,
     /// The image is neither 1,288 nor 1,294 bytes long.
     ImageLength = 8,

@@ -76,6 +76,18 @@ extern "C" {
         pc: u32,
         raw: i32,
     ) -> u64;
+    /// The same, the cache's answer in bits 32 to 39, and the reason in bits 40 to 47.
+    pub fn timing_060_explain_at(
+        tags: &mut Tags,
+        state: &mut Slots,
+        window: &mut Window,
+        profile: u32,
+        op: u16,
+        flags: u16,
+        ppc: u32,
+        pc: u32,
+        raw: i32,
+    ) -> u64;
     pub fn timing_060_break_at(window: &mut Window);
     pub fn timing_060_clear_all_at(state: &mut Slots, window: &mut Window);
     pub fn timing_060_clear_user_at(state: &mut Slots, window: &mut Window);
@@ -89,6 +101,16 @@ extern "C" {
         window: &mut Window,
         profile: u32,
         answers: Lent<u8>,
+    ) -> HostRan;
+    pub fn timing_060_explain_trace_at(
+        trace: Shared<u8>,
+        costs: Lent<u8>,
+        tags: &mut Tags,
+        state: &mut Slots,
+        window: &mut Window,
+        profile: u32,
+        answers: Lent<u8>,
+        reasons: Lent<u8>,
     ) -> HostRan;
     pub fn timing_060_run_batch_at(
         records: Shared<u32>,

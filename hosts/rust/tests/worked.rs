@@ -92,6 +92,174 @@ fn answers() {
     }
 }
 
+/// All reasons, by their numbers.
+const REASONS: [Reason; 14] = [
+    Reason::Paired,
+    Reason::WindowShut,
+    Reason::EssOff,
+    Reason::NotCached,
+    Reason::NotSimple,
+    Reason::Register,
+    Reason::Ccr,
+    Reason::Memory,
+    Reason::Refill,
+    Reason::Folded,
+    Reason::Alone,
+    Reason::NotTaken,
+    Reason::Mispredicted,
+    Reason::Static,
+];
+
+/// Retirements that come to each reason, one after the other: the window that one leaves is what the next meets.
+fn explained() -> Vec<(Retirement, Explained)> {
+    use Answer::*;
+    let of = |op, flags, ppc, pc, raw| Retirement { op, flags, ppc, pc, raw };
+    let (no_ess, fetched) = (Flags { ess: false, ..CACHED }, Flags { cached: false, ..CACHED });
+    let flowed = Flags { flowed: true, ..CACHED };
+    let kept = of(0x66FC, CACHED, 0x2008, 0x200A, 8); // BNE
+    let taken = of(0x66FC, flowed, 0x2008, 0x2006, 10);
+    let off = Retirement { flags: Flags { ebc: false, ..flowed }, ..taken };
+    let moveq = |op, flags| of(op, flags, 0x1000, 0x1002, 4); // into D0, D1, D2, D3: 7000, 7200, 7400, 7600
+    let rts = of(0x4E75, flowed, 0x101E, 0x2000, 16);
+    let met = [
+        (moveq(0x7000, CACHED), 1, NotConsulted, Reason::WindowShut),
+        (moveq(0x7200, CACHED), 0, NotConsulted, Reason::Paired),
+        (moveq(0x7000, CACHED), 1, NotConsulted, Reason::WindowShut), // the pair left no head
+        (moveq(0x7200, no_ess), 1, NotConsulted, Reason::EssOff),     // it is the next head
+        (moveq(0x7400, fetched), 1, NotConsulted, Reason::NotCached),
+        (moveq(0x7600, CACHED), 1, NotConsulted, Reason::NotCached), // its head was not
+        (of(0x4E71, CACHED, 0x100C, 0x100E, 4), 1, NotConsulted, Reason::NotSimple), // NOP is of class 1, and no head
+        (moveq(0x7000, CACHED), 1, NotConsulted, Reason::WindowShut),
+        (of(0x3230, CACHED, 0x1010, 0x1014, 14), 2, NotConsulted, Reason::NotSimple), // MOVE.W (d8,A0,Xn),D1
+        (of(0xD200, CACHED, 0x1014, 0x1016, 4), 1, NotConsulted, Reason::Register),   // ADD.B D0,D1: the head writes D1
+        (of(0x57C0, CACHED, 0x1016, 0x1018, 4), 1, NotConsulted, Reason::Ccr),        // SEQ D0: ADD sets the CCR
+        (of(0x3410, CACHED, 0x1018, 0x101A, 8), 0, NotConsulted, Reason::Paired),     // MOVE.W (A0),D2
+        (of(0x3410, CACHED, 0x101A, 0x101C, 8), 1, NotConsulted, Reason::WindowShut),
+        (of(0x3211, CACHED, 0x101C, 0x101E, 8), 1, NotConsulted, Reason::Memory), // MOVE.W (A1),D1
+        (rts, 5, NotConsulted, Reason::Refill),
+        (off, 7, NotConsulted, Reason::Static),
+        (kept, 1, Miss, Reason::NotTaken),
+        (taken, 7, Miss, Reason::Mispredicted),
+        (taken, 1, PredictedTaken, Reason::Alone),
+        (moveq(0x7000, CACHED), 1, NotConsulted, Reason::WindowShut),
+        (taken, 0, PredictedTaken, Reason::Folded),
+        (kept, 7, PredictedTaken, Reason::Mispredicted),
+        (kept, 7, PredictedTaken, Reason::Mispredicted),
+        (kept, 1, PredictedNotTaken, Reason::NotTaken),
+        (taken, 7, PredictedNotTaken, Reason::Mispredicted),
+        (of(0x51C8, fetched, 0x200A, 0x2000, 10), 2, NotConsulted, Reason::Static), // DBF loops
+        (of(0x51C8, fetched, 0x200A, 0x200E, 14), 3, NotConsulted, Reason::Static), // and ends
+        (Retirement { raw: -1, ..rts }, 5, NotConsulted, Reason::Refill),
+        (Retirement { raw: i32::MAX, ..rts }, 0x1FFF_FFFF, NotConsulted, Reason::Refill),
+    ];
+    met.map(|(r, clocks, answer, reason)| (r, Explained { clocks, answer, reason })).to_vec()
+}
+
+/// Each reason, in steps and in a trace; a break goes before each that finds the window shut, and has no reason.
+#[test]
+fn reasons() {
+    let met = explained();
+    assert!(REASONS.iter().all(|reason| met.iter().any(|(_, e)| e.reason == *reason)));
+    let with_break = |(r, e): &(Retirement, Explained)| {
+        let a_break: &[u8] = if e.reason == Reason::WindowShut { &[0, 0, 2, 0] } else { &[] };
+        [a_break, &bytes_of(r)].concat()
+    };
+    let trace: Vec<u8> = met.iter().flat_map(with_break).collect();
+    let total = met.iter().map(|(_, e)| u64::from(e.clocks)).sum();
+    for profile in PROFILES {
+        let mut t = Timing060::new(profile);
+        let mut plain = t.clone();
+        for (i, (r, e)) in met.iter().enumerate() {
+            assert_eq!(t.explain(*r), *e, "{i}");
+            assert_eq!(plain.retire(*r), Retired { clocks: e.clocks, answer: e.answer }, "{i}");
+            assert_eq!(t, plain, "{i}");
+        }
+        let [mut costs, mut answers, mut reasons] =
+            [COST_BYTES, ANSWER_BYTES, REASON_BYTES].map(|bytes| vec![99; bytes * met.len()]);
+        let mut run = Timing060::new(profile);
+        let ran = run.explain_trace(&trace, &mut costs, &mut answers, &mut reasons);
+        assert_eq!(ran, Ok(Ran { count: met.len() as u64, total }));
+        assert_eq!(run, t);
+        assert_eq!(costs, met.iter().flat_map(|(_, e)| e.clocks.to_le_bytes()).collect::<Vec<u8>>());
+        assert_eq!(answers, met.iter().map(|(_, e)| e.answer.number()).collect::<Vec<u8>>());
+        assert_eq!(reasons, met.iter().map(|(_, e)| e.reason.number()).collect::<Vec<u8>>());
+    }
+}
+
+/// Every opcode, mostly behind another: explained it gives and leaves what a step does, costs what its reason says, and
+/// where that is a register has one in common with the head.
+#[test]
+fn explained_opcodes() {
+    for profile in PROFILES {
+        let (mut t, mut plain) = (Timing060::new(profile), Timing060::new(profile));
+        for i in 0..0x4_0000u32 {
+            let (op, ppc) = (i.wrapping_mul(40503) as u16, 2 * (i % 600));
+            let flags = Flags { flowed: i % 5 == 0, cached: i % 7 != 0, ess: i % 11 != 0, ebc: i % 13 != 0, ..CACHED };
+            let r = Retirement { op, flags, ppc, pc: ppc + 2 + (i & 2), raw: 20 };
+            let (m, head) = (masks(op, profile), t.head().map_or(0, |head| masks(head.op, profile).defs));
+            let Explained { clocks, answer, reason } = t.explain(r);
+            assert_eq!(Retired { clocks, answer }, plain.retire(r), "{r:?}");
+            assert_eq!(t.head(), plain.head(), "{r:?}");
+            assert_eq!(clocks == 0, matches!(reason, Reason::Paired | Reason::Folded), "{r:?}");
+            match reason {
+                Reason::Register => assert_ne!((m.uses | m.defs) & head, 0, "{r:?}"),
+                Reason::Paired | Reason::Ccr | Reason::Memory => assert_eq!((m.uses | m.defs) & head, 0, "{r:?}"),
+                Reason::Alone | Reason::NotTaken => assert_eq!(clocks, 1, "{r:?}"),
+                Reason::Mispredicted => assert_eq!(clocks, 7, "{r:?}"),
+                _ => {}
+            }
+        }
+        assert_eq!(t, plain);
+    }
+}
+
+/// Too little room for one of the three, or none, and faulty traces: all is refused, and nothing written.
+#[test]
+fn explained_trace_and_refusals() {
+    let mut t = Timing060::new(Profile::Mended);
+    let (mut costs, mut answers, mut reasons) = ([0xAA; 17], [0xAA; 5], [0xAA; 5]);
+    assert_eq!(t.explain_trace(&TRACE, &mut costs, &mut answers, &mut reasons), Ok(Ran { count: 4, total: 9 }));
+    assert_eq!(costs, [1, 0, 0, 0, 0, 0, 0, 0, 7, 0, 0, 0, 1, 0, 0, 0, 0xAA]);
+    assert_eq!((answers, reasons), ([0, 0, 1, 3, 0xAA], [1, 0, 12, 10, 0xAA]));
+    let before = (t.clone(), costs, answers, reasons);
+    let mut refusal = |trace: &[u8], [c, a, r]: [usize; 3]| {
+        t.explain_trace(trace, &mut costs[..c], &mut answers[..a], &mut reasons[..r])
+    };
+    for rooms in [[15, 5, 5], [17, 3, 5], [17, 5, 3], [0, 5, 5], [17, 0, 5], [17, 5, 0], [0, 0, 0]] {
+        assert_eq!(refusal(&TRACE, rooms), refused(Refusal::Room, 80), "{rooms:?}");
+    }
+    // the room is looked at last
+    let with = |at: usize, byte: u8| {
+        let mut trace = TRACE;
+        trace[at] = byte;
+        trace
+    };
+    for rooms in [[17, 5, 5], [17, 5, 0]] {
+        assert_eq!(refusal(&vec![0; TRACE_BYTES + 1], rooms), refused(Refusal::Oversized, 0));
+        assert_eq!(refusal(&TRACE[..23], rooms), refused(Refusal::Remainder, 20));
+        assert_eq!(refusal(&with(22, 5), rooms), refused(Refusal::WrongKind, 20));
+        assert_eq!(refusal(&with(40, 15), rooms), refused(Refusal::WrongLength, 40));
+        assert_eq!(refusal(&TRACE[..79], rooms), refused(Refusal::Cut, 60));
+        assert_eq!(refusal(&with(26, 0x3E), rooms), refused(Refusal::Flag, 20));
+    }
+    for rooms in [[0, 0, 0], [17, 5, 5]] {
+        assert_eq!(refusal(&[], rooms), Ok(Ran { count: 0, total: 0 }));
+    }
+    assert_eq!((t, costs, answers, reasons), before);
+}
+
+/// Numbers and words of the reasons.
+#[test]
+fn reasons_as_bytes() {
+    assert_eq!(REASONS.map(Reason::number), std::array::from_fn(|i| i as u8));
+    assert_eq!(REASONS.map(|reason| Reason::of(reason.number())), REASONS.map(Some));
+    assert!((14..=255).all(|byte| Reason::of(byte).is_none()));
+    let words = "paired window-shut ess-off not-cached not-simple register ccr memory refill folded alone not-taken \
+                 mispredicted static";
+    assert_eq!(REASONS.map(Reason::word).join(" "), words);
+    assert_eq!(REASONS.map(|reason| reason.to_string()), REASONS.map(Reason::word));
+}
+
 /// A retirement as a trace has it.
 fn bytes_of(r: &Retirement) -> Vec<u8> {
     let Flags { flowed, cached, ess, ebc, supervisor } = r.flags;
@@ -123,6 +291,8 @@ fn over_paired() {
         assert_eq!(t.retire(OVER_PAIRED[0]).clocks, 1);
         let mut read = Timing060::from_image(&t.image(), profile).unwrap();
         assert_eq!(read, t);
+        let reason = if second == 0 { Reason::Paired } else { Reason::Register };
+        assert_eq!(t.clone().explain(OVER_PAIRED[1]).reason, reason);
         assert_eq!([&mut t, &mut read].map(|state| state.retire(OVER_PAIRED[1]).clocks), [second, second]);
         t.break_pipeline();
         t.clear_all();
@@ -133,6 +303,9 @@ fn over_paired() {
         assert_eq!(fresh.clone().run_batch(&records, &mut costs, &mut answers), ran);
         assert_eq!(fresh.clone().run_trace(&trace, &mut bytes, &mut answers), ran);
         assert_eq!((costs, bytes), ([1, second], [1, 0, 0, 0, second as u8, 0, 0, 0]));
+        let mut reasons = [99; 2];
+        assert_eq!(fresh.clone().explain_trace(&trace, &mut bytes, &mut answers, &mut reasons), ran);
+        assert_eq!(reasons, [Reason::WindowShut, reason].map(Reason::number));
     }
     assert_eq!(Timing060::default(), Timing060::new(Profile::Crate));
     assert_ne!(Timing060::default(), Timing060::new(Profile::Mended));
