@@ -1,10 +1,12 @@
 //! The port against the Rust module, case by case, through the program `cases`.
 //!
-//! A case is 10 bytes (what, profile number and dirty, room for costs 2, image length 2, length 2, room for answers 2),
-//! a state image or nothing, and bytes; it gives a line: WHAT VERDICT NUMBER PLACE COUNT TOTAL LENT ANSWERS STATE. Both
-//! lent runs hold a pattern beforehand, so that a byte written or not shows.
+//! A case is 12 bytes (what, profile number and dirty, room for costs 2, image length 2, length 2, room for answers 2,
+//! room for reasons 2), a state image or nothing, and bytes; it gives a line: WHAT VERDICT NUMBER PLACE COUNT TOTAL
+//! LENT ANSWERS REASONS STATE. Each lent run holds a pattern beforehand, so that a byte written or not shows.
 use crate::core060::cpu::{ANSWERS, CRATE, MENDED};
+use crate::core060::reasons::REASONS;
 use crate::format::*;
+use crate::tries;
 use std::fmt::Write as _;
 use std::io::{Read, Write};
 use std::process::{Command, Stdio};
@@ -54,30 +56,25 @@ const WRITE: u8 = 3;
 const BATCH: u8 = 4;
 const SLICE: u8 = 5;
 const BREAK: u8 = 6;
+const WHY: u8 = 7;
 
-const NO_ROOM: Room = Room { costs: 0, answers: 0 };
+const NO_ROOM: Room = Room { costs: 0, answers: 0, reasons: 0 };
 
-// What a run by a profile gives: the verdict, the count and the total. Costs and answers go into what is lent for them.
-fn ran(
-    profile: u32,
-    events: Result<Vec<Event>, Refused>,
-    costs: &mut [u8],
-    answers: &mut [u8],
-    state: &mut State,
-) -> String {
-    let (mut count, mut total) = (0, 0u64);
-    match events {
-        Err((n, p)) => format!("refused {n} {p} 0 0"),
-        Ok(events) => {
-            for Paid { cost, answer } in events.iter().filter_map(|e| step(profile, state, e)) {
-                costs[4 * count..4 * count + 4].copy_from_slice(&(cost as u32).to_le_bytes());
-                answers[count] = answer;
-                count += 1;
-                total += cost as u64;
-            }
-            format!("accepted 0 0 {count} {total}")
-        }
-    }
+// A run of a trace, and not of a batch's records.
+fn of_trace(what: u8) -> bool {
+    what == TRACE || what == WHY
+}
+
+// What of a run's room is for the cost of one retirement.
+fn each_cost(what: u8) -> usize {
+    if of_trace(what) { 4 } else { 1 }
+}
+
+// The bytes that are lent to a case.
+struct Lent {
+    costs: Vec<u8>,
+    answers: Vec<u8>,
+    reasons: Vec<u8>,
 }
 
 // What a lent run holds beforehand.
@@ -88,11 +85,12 @@ fn pattern(bytes: usize) -> Vec<u8> {
 impl Case {
     // A run of events, of a batch only those that retire, which is lent just enough.
     fn run(what: u8, number: u8, dirty: bool, image: &[u8], events: &[Event]) -> Self {
-        let (each, header) = if what == TRACE { (4, 0) } else { (1, 4) };
-        let read = events.iter().filter(|e| what == TRACE || matches!(e, Event::Retired(_)));
+        let header = if of_trace(what) { 0 } else { 4 };
+        let read = events.iter().filter(|e| of_trace(what) || matches!(e, Event::Retired(_)));
         let bytes = read.flat_map(|e| record(e)[header..].to_vec()).collect();
         let n = retirements(events);
-        Case { what, number, dirty, room: Room { costs: each * n, answers: n }, image: image.to_vec(), bytes }
+        let room = Room { costs: each_cost(what) * n, answers: n, reasons: n };
+        Case { what, number, dirty, room, image: image.to_vec(), bytes }
     }
 
     // The same, lent so much more or less.
@@ -102,10 +100,16 @@ impl Case {
         self
     }
 
+    // The same of the reasons.
+    fn told(mut self, reasons: isize) -> Self {
+        self.room.reasons = self.room.reasons.saturating_add_signed(reasons);
+        self
+    }
+
     fn encode(&self, out: &mut Vec<u8>) {
         out.push(self.what);
         out.push(self.number << 1 | self.dirty as u8);
-        for n in [self.room.costs, self.image.len(), self.bytes.len(), self.room.answers] {
+        for n in [self.room.costs, self.image.len(), self.bytes.len(), self.room.answers, self.room.reasons] {
             out.extend((n as u16).to_le_bytes());
         }
         out.extend(&self.image);
@@ -117,7 +121,7 @@ impl Case {
     }
 
     fn runs(&self) -> bool {
-        self.what == TRACE || self.batch()
+        of_trace(self.what) || self.batch()
     }
 
     // The profile that the number means, as a host passes it.
@@ -129,6 +133,7 @@ impl Case {
     fn events(&self) -> Result<Vec<Event>, Refused> {
         match self.what {
             TRACE => read_trace(&self.bytes, self.room),
+            WHY => read_why(&self.bytes, self.room),
             BATCH | SLICE => read_batch(&self.bytes, self.room),
             _ => Ok(Vec::new()),
         }
@@ -155,36 +160,63 @@ impl Case {
         self.stepped(profile).0
     }
 
-    // The line that the port must print. Answers are lent to runs alone, whatever the case says.
+    // What is lent to a run, before it. Reasons are lent to `why` alone, whatever the case says.
+    fn lends(&self) -> Lent {
+        let reasons = if self.what == WHY { self.room.reasons } else { 0 };
+        let costs = if self.batch() { 4 * self.room.costs } else { self.room.costs };
+        Lent { costs: pattern(costs), answers: pattern(self.room.answers), reasons: pattern(reasons) }
+    }
+
+    // What a run gives: the verdict, the count and the total. Costs, answers and reasons go into what is lent for them.
+    fn ran(&self, lent: &mut Lent, state: &mut State) -> String {
+        let events = match self.events() {
+            Err((n, p)) => return format!("refused {n} {p} 0 0"),
+            Ok(events) => events,
+        };
+        let (mut count, mut total) = (0, 0u64);
+        for Paid { cost, answer, why } in events.iter().filter_map(|e| step(self.profile(), state, e)) {
+            lent.costs[4 * count..4 * count + 4].copy_from_slice(&(cost as u32).to_le_bytes());
+            lent.answers[count] = answer;
+            if self.what == WHY {
+                lent.reasons[count] = why.reason as u8;
+            }
+            count += 1;
+            total += cost as u64;
+        }
+        format!("accepted 0 0 {count} {total}")
+    }
+
+    // The line that the port must print. Answers and reasons are lent to runs alone, whatever the case says.
     fn expected(&self) -> String {
-        let mut lent = pattern(if self.batch() { 4 * self.room.costs } else { self.room.costs });
-        let mut answers = pattern(self.room.answers);
         let mut state = self.start();
         match self.what {
-            TRACE | BATCH | SLICE => {
+            TRACE | BATCH | SLICE | WHY => {
                 let what = match self.what {
                     TRACE => "trace",
                     BATCH => "batch",
-                    _ => "slice",
+                    SLICE => "slice",
+                    _ => "why",
                 };
-                let gave = ran(self.profile(), self.events(), &mut lent, &mut answers, &mut state);
-                format!("{what} {gave} {} {} {}", hex(&lent), hex(&answers), shown(&state))
+                let mut lent = self.lends();
+                let gave = self.ran(&mut lent, &mut state);
+                let [costs, answers, reasons] = [lent.costs, lent.answers, lent.reasons].map(|bytes| hex(&bytes));
+                format!("{what} {gave} {costs} {answers} {reasons} {}", shown(&state))
             }
             BREAK => {
                 step(self.profile(), &mut state, &Event::Break);
-                format!("break accepted 0 0 0 0 - - {}", shown(&state))
+                format!("break accepted 0 0 0 0 - - - {}", shown(&state))
             }
             READ => match read_image(&self.bytes) {
-                Err((n, p)) => format!("read refused {n} {p} 0 0 - - {}", shown(&State::default())),
-                Ok(state) => format!("read accepted 0 0 0 0 - - {}", shown(&state)),
+                Err((n, p)) => format!("read refused {n} {p} 0 0 - - - {}", shown(&State::default())),
+                Ok(state) => format!("read accepted 0 0 0 0 - - - {}", shown(&state)),
             },
             _ => {
-                let image = write_image(&state);
-                if self.room.costs < IMAGE {
-                    format!("write refused 7 0 0 0 {} - -", hex(&lent))
+                let mut lent = pattern(self.room.costs);
+                if lent.len() < IMAGE {
+                    format!("write refused 7 0 0 0 {} - - -", hex(&lent))
                 } else {
-                    lent[..IMAGE].copy_from_slice(&image);
-                    format!("write accepted 0 0 {IMAGE} 0 {} - -", hex(&lent))
+                    lent[..IMAGE].copy_from_slice(&write_image(&state));
+                    format!("write accepted 0 0 {IMAGE} 0 {} - - -", hex(&lent))
                 }
             }
         }
@@ -291,6 +323,29 @@ fn raw(rng: &mut Random) -> i32 {
     }
 }
 
+// An instruction on few registers, so that two often share one: what can join a head and what cannot, on memory and
+// not, with the CCR set, used late and neither.
+fn instruction(rng: &mut Random) -> u16 {
+    let (x, y) = ((rng.below(4) << 9) as u16, rng.below(4) as u16);
+    rng.pick(&[
+        0x7000 | x,     // MOVEQ #0,Dx
+        0x3000 | x | y, // MOVE.W Dy,Dx
+        0x3010 | x | y, // MOVE.W (Ay),Dx
+        0x3018 | x | y, // MOVE.W (Ay)+,Dx
+        0x3080 | x | y, // MOVE.W Dy,(Ax)
+        0x3040 | x | y, // MOVEA.W Dy,Ax
+        0x41D0 | x | y, // LEA (Ay),Ax
+        0x56C0 | y,     // SNE Dy
+        0x56D0 | y,     // SNE (Ay)
+        0x5248 | y,     // ADDQ.W #1,Ay
+        0xB140 | x | y, // EOR.W Dx,Dy
+        0x0640 | y,     // ADDI.W #,Dy, which is taken to touch all registers
+        0x48D0 | y,     // MOVEM.W ..,(Ay)
+        0x3030 | x | y, // MOVE.W (d8,Ay,Xn),Dx
+        0x4E71,         // NOP
+    ])
+}
+
 // Of the styles of a run, by its addresses, the last has branches for the most part.
 const STYLES: u64 = 5;
 const BRANCHES: u64 = 4;
@@ -371,6 +426,28 @@ fn events(rng: &mut Random, number: u8, size: u64) -> Vec<Event> {
     events
 }
 
+// What is asked why: such instructions, and between them branches, all else, and pairs of the mended profile's rows.
+fn why_events(rng: &mut Random, number: u8, size: u64) -> Vec<Event> {
+    let mut events = Vec::new();
+    while (events.len() as u64) < size {
+        match rng.below(16) {
+            0 => events.push(rng.pick(&[Event::Break, Event::Break, Event::ClearUser])),
+            1..=3 => events.push(Event::Retired(branch(rng))),
+            4 => events.push(Event::Retired(random_retirement(rng, number, 1))),
+            5 | 6 if number != 0 => {
+                let row = rng.below(ROWS);
+                pair(rng, &mut events, row)
+            }
+            _ => {
+                let (op, ppc) = (instruction(rng), 0x1000 + 2 * rng.below(0x400) as u32);
+                let flags = if rng.one_in(8) { rng.below(32) as u16 } else { 0x1E };
+                events.push(Event::Retired(Retirement { op, flags, ppc, pc: ppc + 2, raw: raw(rng) }));
+            }
+        }
+    }
+    events
+}
+
 // An image of kind 17 with its window open, behind any head, or shut.
 fn image_with(rng: &mut Random, open: bool) -> Vec<u8> {
     let mut s = vec![0x0A, 0x05, 17, 0];
@@ -430,10 +507,6 @@ fn damage(rng: &mut Random, s: &mut Vec<u8>) {
     }
 }
 
-fn retirements(events: &[Event]) -> usize {
-    events.iter().filter(|e| matches!(e, Event::Retired(_))).count()
-}
-
 // Just enough, some more, or much more.
 fn enough(rng: &mut Random, needed: usize) -> usize {
     match rng.below(16) {
@@ -453,24 +526,43 @@ fn too_little(rng: &mut Random, each: usize, n: usize) -> usize {
     }
 }
 
-// What is lent for n retirements whose costs take so much each: one in so many is short of costs, answers or both.
-fn room(rng: &mut Random, each: usize, n: usize, short: u64) -> Room {
-    let short = if rng.one_in(short) { 1 + rng.below(3) } else { 0 };
+// What is lent for n retirements: one in so many is short of costs, answers or both, or of reasons where they are lent.
+fn room(rng: &mut Random, what: u8, n: usize, short: u64) -> Room {
+    let (each, sets) = (each_cost(what), if what == WHY { 8 } else { 4 });
+    let short = if rng.one_in(short) { 1 + rng.below(sets - 1) } else { 0 };
     let costs = if short & 1 != 0 { too_little(rng, each, n) } else { enough(rng, each * n) };
     let answers = if short & 2 != 0 { too_little(rng, 1, n) } else { enough(rng, n) };
-    Room { costs, answers }
+    let reasons = match what {
+        WHY if short & 4 != 0 => too_little(rng, 1, n),
+        WHY => enough(rng, n),
+        _ => not_lent(rng),
+    };
+    Room { costs, answers, reasons }
 }
 
-// Where no answers are lent the case says any number.
-fn no_answers(rng: &mut Random, costs: usize) -> Room {
-    Room { costs, answers: rng.pick(&[0, 0, 1, 300, 65_535]) }
+// What is not lent: the case says any number.
+fn not_lent(rng: &mut Random) -> usize {
+    rng.pick(&[0, 0, 1, 300, 65_535])
 }
 
-fn trace_case(rng: &mut Random, number: u8, size: u64, short: u64) -> Case {
-    let events = events(rng, number, size);
-    let room = room(rng, 4, retirements(&events), short);
+fn costs_alone(rng: &mut Random, costs: usize) -> Room {
+    Room { costs, answers: not_lent(rng), reasons: not_lent(rng) }
+}
+
+fn trace_case(rng: &mut Random, what: u8, number: u8, events: &[Event], short: u64) -> Case {
+    let room = room(rng, what, retirements(events), short);
     let image = if rng.one_in(2) { image(rng) } else { Vec::new() };
-    Case { room, ..Case::run(TRACE, number, rng.one_in(8), &image, &events) }
+    Case { room, ..Case::run(what, number, rng.one_in(8), &image, events) }
+}
+
+// What is refused for a record is so with short runs, too.
+fn damaged_case(rng: &mut Random, what: u8, number: u8, events: &[Event]) -> Case {
+    let mut case = trace_case(rng, what, number, events, 4);
+    damage(rng, &mut case.bytes);
+    if !rng.one_in(16) {
+        case.image.clear();
+    }
+    case
 }
 
 /// Gives the number of a case's profile.
@@ -480,17 +572,13 @@ pub fn cases(rng: &mut Random, scale: u64, numbers: Numbers) -> Vec<Case> {
     let mut all = Vec::new();
     for _ in 0..25 * scale {
         let (number, size) = (numbers(rng), rng.pick(&[0, 1, 2, 3, 40, 500, 1000]));
-        all.push(trace_case(rng, number, size, 20));
+        let events = events(rng, number, size);
+        all.push(trace_case(rng, TRACE, number, &events, 20));
     }
     for _ in 0..100 * scale {
         let (number, size) = (numbers(rng), rng.below(7));
-        // what is refused for a record is so with short runs, too
-        let mut case = trace_case(rng, number, size, 4);
-        damage(rng, &mut case.bytes);
-        if !rng.one_in(16) {
-            case.image.clear();
-        }
-        all.push(case);
+        let events = events(rng, number, size);
+        all.push(damaged_case(rng, TRACE, number, &events));
     }
     for _ in 0..100 * scale {
         let mut bytes = image(rng);
@@ -502,15 +590,37 @@ pub fn cases(rng: &mut Random, scale: u64, numbers: Numbers) -> Vec<Case> {
         } else if rng.one_in(2) {
             damage(rng, &mut bytes);
         }
-        let (number, room) = (numbers(rng), no_answers(rng, 0));
+        let (number, room) = (numbers(rng), costs_alone(rng, 0));
         all.push(Case { what: READ, number, dirty: false, room, image: Vec::new(), bytes });
     }
     for _ in 0..3 * scale {
         let (number, costs) = (numbers(rng), rng.pick(&[0, 1, 1287, 1288, 1293, 1294, 1295, 1300]));
-        let room = no_answers(rng, costs);
+        let room = costs_alone(rng, costs);
         all.push(Case { what: WRITE, number, dirty: rng.one_in(3), room, image: image(rng), bytes: Vec::new() });
     }
     all
+}
+
+// Runs that say why, and damaged ones.
+pub fn whys(rng: &mut Random, scale: u64, numbers: Numbers) -> Vec<Case> {
+    let mut all = Vec::new();
+    for _ in 0..20 * scale {
+        let (number, size) = (numbers(rng), rng.pick(&[0, 1, 2, 3, 40, 200, 400]));
+        let events = if rng.one_in(3) { events(rng, number, size) } else { why_events(rng, number, size) };
+        all.push(trace_case(rng, WHY, number, &events, 4));
+    }
+    for _ in 0..25 * scale {
+        let (number, size) = (numbers(rng), rng.below(7));
+        let events = why_events(rng, number, size);
+        all.push(damaged_case(rng, WHY, number, &events));
+    }
+    all
+}
+
+// Two long runs, one by each profile, so that the random runs have every reason whatever the scale.
+fn long_whys(rng: &mut Random) -> Vec<Case> {
+    let events = [0, 1].map(|number| (number, why_events(rng, number, 2000)));
+    events.map(|(number, events)| Case::run(WHY, number, false, &[], &events)).into()
 }
 
 // The retirements among events, as a batch.
@@ -527,7 +637,7 @@ fn batch_case(rng: &mut Random, number: u8, events: &[Event]) -> Case {
     if what == BATCH && rng.one_in(8) {
         bytes.extend((0..1 + rng.below(15)).map(|_| rng.next() as u8));
     }
-    let room = room(rng, 1, needed, 8);
+    let room = room(rng, what, needed, 8);
     let image = if rng.one_in(2) { image(rng) } else { Vec::new() };
     Case { what, number, dirty: rng.one_in(4), room, image, bytes }
 }
@@ -559,7 +669,7 @@ pub fn batches(rng: &mut Random, scale: u64, numbers: Numbers) -> Vec<Case> {
         let number = numbers(rng);
         let open = image_with(rng, true);
         let image = if rng.one_in(8) { Vec::new() } else { of_either_kind(rng, open) };
-        let room = no_answers(rng, 0);
+        let room = costs_alone(rng, 0);
         all.push(Case { what: BREAK, number, dirty: rng.one_in(4), room, image, bytes: Vec::new() });
     }
     all
@@ -599,7 +709,8 @@ fn batch_limits() -> Vec<Case> {
     for (dirty, image) in clean.into_iter().chain(dirty) {
         // lent just enough for whole records, and so much more or less
         let case = |what, bytes: &[u8], costs, answers| {
-            let room = Room { costs: bytes.len() / 16, answers: bytes.len() / 16 };
+            let n = bytes.len() / 16;
+            let room = Room { costs: n, answers: n, reasons: n };
             let (image, bytes) = (image.clone(), bytes.to_vec());
             Case { what, number: 0, dirty, room, image, bytes }.lent(costs, answers)
         };
@@ -619,22 +730,19 @@ fn batch_limits() -> Vec<Case> {
     all
 }
 
-// The cases at the limits of each refusal, written out.
-fn limits() -> Vec<Case> {
-    let mut events = worked().to_vec();
-    events.extend([Event::Break, Event::ClearAll, Event::ClearUser]);
-    let good: Vec<u8> = events.iter().flat_map(record).collect();
-    let trace = |bytes: &[u8], (costs, answers)| {
-        let (image, bytes) = (Vec::new(), bytes.to_vec());
-        Case { what: TRACE, number: 0, dirty: false, room: Room { costs, answers }, image, bytes }
-    };
-    let mut all = vec![trace(&[], (0, 0)), trace(&[], (5, 3))];
-    all.extend([(16, 4), (20, 7), (15, 4), (16, 3), (0, 0)].map(|room| trace(&good, room)));
-    // a refusal of a record comes before that of a short run
+// The worked instructions, and each other kind of record.
+fn good_trace() -> Vec<u8> {
+    let others = [Event::Break, Event::ClearAll, Event::ClearUser];
+    worked().iter().chain(&others).flat_map(record).collect()
+}
+
+// That trace, with a fault at the limits of each refusal of a record, and one whose flags are just not above bit 4.
+fn faults() -> Vec<Vec<u8>> {
+    let mut all = Vec::new();
     let mut changed = |change: &dyn Fn(&mut Vec<u8>)| {
-        let mut bytes = good.clone();
+        let mut bytes = good_trace();
         change(&mut bytes);
-        all.extend([(16, 4), (16, 3), (15, 4), (0, 0)].map(|room| trace(&bytes, room)));
+        all.push(bytes);
     };
     for left in 1..4 {
         changed(&|s| s.truncate(80 + left));
@@ -649,6 +757,22 @@ fn limits() -> Vec<Case> {
     changed(&|s| s.truncate(61));
     for flags in [0x20, 0x8000, 0xFFFF, 0x1F] {
         changed(&|s| s[26..28].copy_from_slice(&u16::to_le_bytes(flags)));
+    }
+    all
+}
+
+// The cases at the limits of each refusal, written out.
+fn limits() -> Vec<Case> {
+    let good = good_trace();
+    let trace = |bytes: &[u8], (costs, answers)| {
+        let (room, image, bytes) = (Room { costs, answers, reasons: 0 }, Vec::new(), bytes.to_vec());
+        Case { what: TRACE, number: 0, dirty: false, room, image, bytes }
+    };
+    let mut all = vec![trace(&[], (0, 0)), trace(&[], (5, 3))];
+    all.extend([(16, 4), (20, 7), (15, 4), (16, 3), (0, 0)].map(|room| trace(&good, room)));
+    // a refusal of a record comes before that of a short run
+    for bytes in faults() {
+        all.extend([(16, 4), (16, 3), (15, 4), (0, 0)].map(|room| trace(&bytes, room)));
     }
     let mut rng = Random::new(1);
     let (open, shut) = (image_with(&mut rng, true), image_with(&mut rng, false));
@@ -717,7 +841,7 @@ fn image_limits(open: &[u8], shut: &[u8]) -> Vec<Case> {
     let read = |bytes| Case { what: READ, number: 0, dirty: false, room: NO_ROOM, image: Vec::new(), bytes };
     let mut all: Vec<Case> = images.into_iter().map(read).collect();
     let mut write = |costs, dirty, image: &[u8]| {
-        let room = Room { costs, answers: 0 };
+        let room = Room { costs, ..NO_ROOM };
         all.push(Case { what: WRITE, number: 0, dirty, room, image: image.to_vec(), bytes: Vec::new() });
     };
     for costs in [0, 1287, 1288, 1293, 1294, 1295] {
@@ -884,15 +1008,87 @@ fn predictions() -> Vec<Case> {
     all
 }
 
-/// A trace of up to some 3,000 records, one in two damaged.
-pub fn random_trace(seed: u64) -> Vec<u8> {
+// An image of kind 17 of an empty cache with an open window: its def mask, and its bits for CCR, memory and cached.
+fn with_window(defs: u16, bits: u8) -> Vec<u8> {
+    let mut image = write_image(&State::default());
+    let [low, high] = defs.to_le_bytes();
+    image[1284..].copy_from_slice(&[1, low, high, bits, 0x78, 0x56, 0x34, 0x12, 0x80, 0x70]);
+    image
+}
+
+// Runs that say why: every reason, from every kind of state, by the numbers of both profiles and of none.
+fn reasons() -> Vec<Case> {
+    let why = |number, dirty, image: &[u8], events: &[Event]| Case::run(WHY, number, dirty, image, events);
+    let mut rng = Random::new(3);
+    let (open, shut) = (image_with(&mut rng, true), image_with(&mut rng, false));
+    let (tries, old) = (tries::all(), old_image(&open));
+    let mut all: Vec<Case> = [(0, false, &[][..]), (1, false, &open), (127, true, &old), (1, true, &shut)]
+        .map(|(number, dirty, image)| why(number, dirty, image, &tries).told(number as isize))
+        .into();
+    // SNE (A0) breaks every rule but the first three behind a head that lets it; the break leaves a fresh state
+    let sne = Retirement { op: 0x56D0, flags: 0x1E, ppc: 0x1000, pc: 0x1002, raw: 4 };
+    for (i, defs) in [0, 0x0100, 0xFEFF, 0xFFFF].into_iter().enumerate() {
+        for bits in 0..8 {
+            let image = with_window(defs, bits);
+            let image = if bits % 2 == 0 { image } else { old_image(&image) };
+            all.push(why(i as u8 % 2, bits == 7, &image, &[Event::Retired(sne), Event::Break]));
+        }
+    }
+    // folded onto the head of an image, and alone where there is none
+    let mut trained = with_window(0, 0);
+    trained[4..8].copy_from_slice(&0x3000u32.to_le_bytes());
+    trained[1028] = 0x07;
+    let bne = Event::Retired(Retirement { op: 0x66F0, flags: 0x1F, ppc: 0x3000, pc: 0x1000, raw: 10 });
+    all.extend([false, true].map(|dirty| why(1, dirty, &trained, &[bne])));
+    all
+}
+
+// The same lent nothing, one place short, just enough and more of each of the three, and all of these with all; and
+// traces with a fault in a record.
+fn reason_rooms() -> Vec<Case> {
+    let retired = |op| Event::Retired(Retirement { op, flags: 0x1E, ppc: 0x1000, pc: 0x1002, raw: 4 });
+    let pair = [0x7000, 0x7200, 0x4E71].map(retired); // and NOP, so that the window is shut
+    let mut all = Vec::new();
+    for costs in [-12, -1, 0, 5] {
+        for (answers, reasons) in [-3, -1, 0, 2].into_iter().flat_map(|a| [-3, -1, 0, 4].map(|r| (a, r))) {
+            all.push(Case::run(WHY, 0, false, &[], &pair).lent(costs, answers).told(reasons));
+        }
+    }
+    let why = |bytes: Vec<u8>, (costs, answers, reasons), image: &[u8]| {
+        let (room, image) = (Room { costs, answers, reasons }, image.to_vec());
+        Case { what: WHY, number: 1, dirty: false, room, image, bytes }
+    };
+    for bytes in faults() {
+        all.extend([(16, 4, 4), (16, 4, 3), (0, 0, 0)].map(|room| why(bytes.clone(), room, &[])));
+    }
+    // what is refused for a record, or for reasons alone, leaves the state that it was given
+    let given = with_window(0x8001, 5);
+    for (bytes, room) in [(79, (16, 4, 3)), (92, (16, 4, 3)), (92, (16, 4, 0)), (92, (17, 6, 5))] {
+        all.push(why(good_trace()[..bytes].to_vec(), room, &given));
+    }
+    all.extend([(0, 0, 0), (5, 3, 2)].map(|room| why(Vec::new(), room, &[])));
+    all
+}
+
+// A trace of up to some 3,000 records of such events, one in so many damaged.
+fn some_trace(seed: u64, events: fn(&mut Random, u64) -> Vec<Event>, damaged: u64) -> Vec<u8> {
     let mut rng = Random::new(seed + 1);
     let size = rng.pick(&[1, 5, 40, 400, 3000]);
-    let mut bytes: Vec<u8> = events(&mut rng, 0, size).iter().flat_map(record).collect();
-    if rng.one_in(2) {
+    let mut bytes: Vec<u8> = events(&mut rng, size).iter().flat_map(record).collect();
+    if rng.one_in(damaged) {
         damage(&mut rng, &mut bytes);
     }
     bytes
+}
+
+/// A trace of all kinds of events, one in two damaged.
+pub fn random_trace(seed: u64) -> Vec<u8> {
+    some_trace(seed, |rng, size| events(rng, 0, size), 2)
+}
+
+/// A trace to be asked why, one in four damaged.
+pub fn random_why(seed: u64) -> Vec<u8> {
+    some_trace(seed, |rng, size| why_events(rng, 1, size), 4)
 }
 
 /// What replay reads: an image of either kind, one in three damaged, and such a trace; one in eight is cut before the
@@ -910,22 +1106,26 @@ pub fn random_replay(seed: u64) -> Vec<u8> {
     bytes
 }
 
-// Every other one: `rt try`, by which tests/mutants runs a program, takes 1 MiB of output.
-fn every_other(cases: Vec<Case>) -> impl Iterator<Item = Case> {
-    cases.into_iter().enumerate().filter(|(i, _)| i % 2 == 0).map(|(_, case)| case)
+// One in so many: `rt try`, by which tests/mutants runs a program, takes 1 MiB of output.
+fn one_of(n: usize, cases: Vec<Case>) -> impl Iterator<Item = Case> {
+    cases.into_iter().step_by(n)
 }
 
-/// The cases that the gate replays: traces and images, then batches and breaks, heads, rooms, and at last those of
-/// other numbers.
+/// The cases that the gate replays: traces and images, then batches and breaks, heads, rooms, those of other numbers,
+/// and at last runs that say why, which give every reason by either profile.
 pub fn sample() -> Vec<Case> {
     let mut all = limits();
-    all.extend(every_other(cases(&mut Random::new(68060), 1, |_| 0)));
+    all.extend(one_of(2, cases(&mut Random::new(68060), 1, |_| 0)));
     all.extend(batch_limits());
-    all.extend(every_other(batches(&mut Random::new(68060), 1, |_| 0)));
+    all.extend(one_of(3, batches(&mut Random::new(68060), 1, |_| 0)));
     all.extend(heads());
     all.extend(rooms());
     all.extend(predictions());
     all.extend(profiles());
+    all.extend(reasons());
+    all.extend(reason_rooms());
+    all.extend(one_of(2, whys(&mut Random::new(68060), 1, any_number)));
+    assert_eq!(missing_reasons(&all), None);
     all
 }
 
@@ -976,42 +1176,66 @@ fn differs(runner: &[String], case: &Case) -> Option<String> {
     }
 }
 
-// The smallest case that still differs: runs of bytes that are not needed are taken out, the longest first; of a batch,
-// whole records.
+// What can be left out of a case's bytes at once: a record, and from where none can be read on four bytes.
+fn pieces(case: &Case) -> Vec<Vec<u8>> {
+    if case.batch() {
+        return case.bytes.chunks(16).map(<[u8]>::to_vec).collect();
+    }
+    let sound = match read_trace(&case.bytes, AMPLE) {
+        _ if !of_trace(case.what) => 0,
+        Ok(_) => case.bytes.len(),
+        Err((_, place)) => place,
+    };
+    let (records, rest) = case.bytes.split_at(sound);
+    let events = read_trace(records, AMPLE).unwrap_or_default();
+    events.iter().map(record).chain(rest.chunks(4).map(<[u8]>::to_vec)).collect()
+}
+
+// The smallest case that still differs: what is not needed of its bytes is taken out, the longest parts first, and then
+// it is lent just enough.
 fn shrunk(runner: &[String], case: &Case) -> Case {
     let mut best = case.clone();
-    for simpler in [|c| Case { number: 0, ..c }, |c| Case { image: Vec::new(), ..c }] {
+    let simpler = [|c| Case { number: 0, ..c }, |c| Case { dirty: false, ..c }, |c| Case { image: Vec::new(), ..c }];
+    for simpler in simpler {
         let less: Case = simpler(best.clone());
         if differs(runner, &less).is_some() {
             best = less;
         }
     }
-    let unit = if best.batch() { 16 } else { 4 };
-    let mut step = (best.bytes.len() / 2).next_multiple_of(unit);
-    while step >= unit {
+    let mut left = pieces(&best);
+    let mut size = left.len();
+    while size > 0 {
         let mut at = 0;
-        while at + step <= best.bytes.len() {
-            let mut less = best.clone();
-            less.bytes.drain(at..at + step);
+        while at < left.len() {
+            let end = left.len().min(at + size);
+            let fewer = [&left[..at], &left[end..]].concat();
+            let less = Case { bytes: fewer.concat(), ..best.clone() };
             if differs(runner, &less).is_some() {
-                best = less;
+                (best, left) = (less, fewer);
             } else {
-                at += unit;
+                at = end;
             }
         }
-        step = if step == unit { 0 } else { (step / 2).next_multiple_of(unit) };
+        size /= 2;
     }
-    best
+    let n = retirements(&(Case { room: AMPLE, ..best.clone() }).events().unwrap_or_default());
+    let room = Room { costs: each_cost(best.what) * n, answers: n, reasons: n };
+    let less = Case { room, ..best.clone() };
+    if best.runs() && differs(runner, &less).is_some() { less } else { best }
 }
 
 // What there is to run: how many cases, and how many retirements of those that are accepted.
 fn say_how_many(all: &[Case]) {
     let count = |what| all.iter().filter(|c| c.what == what).count();
-    let retired = |batch| -> usize { all.iter().filter(|c| c.batch() == batch).map(|c| c.paid(CRATE).len()).sum() };
+    let retired = |of: fn(&Case) -> bool| -> usize {
+        all.iter().filter(|c| of(c)).map(|c| c.paid(CRATE).len()).sum()
+    };
     let (traces, read, written) = (count(TRACE), count(READ), count(WRITE));
-    println!("{traces} traces with {} retirements, {read} images read, {written} images written", retired(false));
-    let (words, structs, breaks) = (count(BATCH), count(SLICE), count(BREAK));
-    println!("{words} batches and {structs} batches of structs with {} retirements, {breaks} breaks", retired(true));
+    let in_traces = retired(|c| c.what == TRACE);
+    println!("{traces} traces with {in_traces} retirements, {read} images read, {written} images written");
+    let (words, structs, breaks, in_batches) = (count(BATCH), count(SLICE), count(BREAK), retired(Case::batch));
+    println!("{words} batches and {structs} batches of structs with {in_batches} retirements, {breaks} breaks");
+    println!("{} traces asked why, with {} retirements", count(WHY), retired(|c| c.what == WHY));
     let from = |size| all.iter().filter(|c| c.image.len() == size).count();
     let runs = all.iter().filter(|c| c.runs());
     let heads = runs.filter(|c| c.stepped(c.profile()).1.timing.pending_head.is_some()).count();
@@ -1033,8 +1257,11 @@ fn say_how_many(all: &[Case]) {
     println!("of these {by_mended} by the mended profile: {costs} retirements, {others} not at the crate's clocks");
     println!("and {by_none} by a number of no profile, which means the crate's");
     say_answers(all);
+    say_reasons(all);
     say_rooms(all);
 }
+
+const PROFILES: [&str; 2] = ["the crate's", "the mended"];
 
 // How often the cache answers what, by the mended profile and by all others.
 fn say_answers(all: &[Case]) {
@@ -1043,31 +1270,62 @@ fn say_answers(all: &[Case]) {
         let mended = case.profile() == MENDED;
         case.paid(case.profile()).iter().for_each(|p| counts[mended as usize][p.answer as usize] += 1);
     }
-    for (counts, name) in counts.iter().zip(["the crate's", "the mended"]) {
+    for (counts, name) in counts.iter().zip(PROFILES) {
         let each: Vec<String> = counts.iter().zip(ANSWERS).map(|(n, answer)| format!("{n} {answer}")).collect();
         println!("answers by {name} profile: {}", each.join(", "));
     }
 }
 
-// How many runs are short of what, and how many are refused for a record though answers end before it.
+// How often each reason is written, by all profiles but the mended one and by that one.
+fn reason_counts(all: &[Case]) -> [[usize; REASONS.len()]; 2] {
+    let mut counts = [[0; REASONS.len()]; 2];
+    for case in all.iter().filter(|c| c.what == WHY) {
+        let mended = case.profile() == MENDED;
+        case.paid(case.profile()).iter().for_each(|p| counts[mended as usize][p.why.reason as usize] += 1);
+    }
+    counts
+}
+
+fn say_reasons(all: &[Case]) {
+    for (counts, name) in reason_counts(all).iter().zip(PROFILES) {
+        let each: Vec<String> = counts.iter().zip(REASONS).map(|(n, reason)| format!("{n} {reason}")).collect();
+        println!("reasons by {name} profile: {}", each.join(", "));
+    }
+}
+
+// The reasons that no case gives by a profile, which would then not be compared.
+fn missing_reasons(all: &[Case]) -> Option<String> {
+    let mut missing = Vec::new();
+    for (counts, name) in reason_counts(all).iter().zip(PROFILES) {
+        let none = counts.iter().zip(REASONS).filter(|(n, _)| **n == 0);
+        missing.extend(none.map(|(_, reason)| format!("{reason} by {name} profile")));
+    }
+    (!missing.is_empty()).then(|| missing.join(", "))
+}
+
+// How many runs are short of what, and how many are refused for a record though answers or reasons end before it.
 fn say_rooms(all: &[Case]) {
-    let (mut short, mut by_record) = ([0; 4], 0);
+    let (mut short, mut early_answers, mut early_reasons) = ([0; 8], 0, 0);
     for case in all.iter().filter(|c| c.runs()) {
-        let each = if case.what == TRACE { 4 } else { 1 };
+        let costs_end = |n| case.room.costs < each_cost(case.what) * n;
+        let answers_end = |n| case.room.answers < n;
+        let reasons_end = |n| case.what == WHY && case.room.reasons < n;
         match (Case { room: AMPLE, ..case.clone() }).events() {
             Ok(events) => {
                 let n = retirements(&events);
-                short[(case.room.costs < each * n) as usize + 2 * (case.room.answers < n) as usize] += 1;
+                short[costs_end(n) as usize + 2 * answers_end(n) as usize + 4 * reasons_end(n) as usize] += 1;
             }
             Err((_, place)) => {
-                let before = read_trace(&case.bytes[..place], AMPLE).unwrap_or_default();
-                by_record += (case.room.answers < retirements(&before)) as usize;
+                let n = retirements(&read_trace(&case.bytes[..place], AMPLE).unwrap_or_default());
+                early_answers += answers_end(n) as usize;
+                early_reasons += reasons_end(n) as usize;
             }
         }
     }
-    let [_, costs, answers, both] = short;
+    let [_, costs, answers, both, reasons, more @ ..] = short;
     println!("short of costs alone {costs} runs, of answers alone {answers}, of both {both}");
-    println!("refused for a record, and the answers short before it: {by_record}");
+    println!("short of reasons alone {reasons} runs, and of reasons with others {}", more.iter().sum::<usize>());
+    println!("refused for a record, and answers short before it: {early_answers}; reasons: {early_reasons}");
 }
 
 pub fn run(runner: &[String], seed: u64, scale: u64) -> Result<(usize, usize), String> {
@@ -1080,7 +1338,16 @@ pub fn run(runner: &[String], seed: u64, scale: u64) -> Result<(usize, usize), S
     all.extend(rooms());
     all.extend(predictions());
     all.extend(profiles());
+    all.extend(reasons());
+    all.extend(reason_rooms());
+    let random = [whys(&mut rng, scale, any_number), long_whys(&mut rng)].concat();
+    let missing = missing_reasons(&random);
+    all.extend(random);
     say_how_many(&all);
+    match missing {
+        Some(missing) => return Err(format!("no random run gives the reason {missing}")),
+        None => println!("each of the {} reasons is given by either profile in random runs", REASONS.len()),
+    }
     let (mut passed, mut failed) = (0, 0);
     let mut said = Instant::now();
     for some in all.chunks(2000) {

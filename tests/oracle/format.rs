@@ -1,7 +1,8 @@
 //! Records, traces and images, read and written from documents 01 and 02 alone: the independent reader that the port is
 //! held against. The head's opcode and address are kept here too: the Rust has neither. What its branch cache predicts
-//! is asked of the Rust before each step.
+//! is asked of the Rust before each step, and why a retirement costs what it costs is found from its state then.
 use crate::core060::cpu::{CACR_060_EBC, CpuCore, PCR_ESS};
+use crate::core060::reasons::Why;
 use crate::core060::timing_060::{BranchCache060, Oep060Timing, PendingHead060};
 
 /// An image as it is written, of kind 17, and one of kind 16, which has no head fields and is only read.
@@ -39,22 +40,25 @@ pub struct State {
     pub head: Head,
 }
 
-/// What a retirement gives: its cost, and the number of what the branch cache answered.
+/// What a retirement gives: its cost, the number of what the branch cache answered, and why it costs that.
 #[derive(Clone, Copy, Debug, PartialEq)]
 pub struct Paid {
     pub cost: i32,
     pub answer: u8,
+    pub why: Why,
 }
 
-/// What is lent: for costs so many bytes, or places of a batch, or for an image so many bytes; and so many for answers.
+/// What is lent: for costs so many bytes, or places of a batch, or for an image so many bytes; and so many for answers
+/// and for reasons.
 #[derive(Clone, Copy, Debug, PartialEq)]
 pub struct Room {
     pub costs: usize,
     pub answers: usize,
+    pub reasons: usize,
 }
 
 /// Enough for any run.
-pub const AMPLE: Room = Room { costs: usize::MAX, answers: usize::MAX };
+pub const AMPLE: Room = Room { costs: usize::MAX, answers: usize::MAX, reasons: usize::MAX };
 
 /// A refusal: its number and place.
 pub type Refused = (u32, usize);
@@ -96,8 +100,13 @@ fn retirement(p: &[u8]) -> Retirement {
     Retirement { op: u16_at(p, 0), flags: u16_at(p, 2), ppc: u32_at(p, 4), pc: u32_at(p, 8), raw: u32_at(p, 12) as i32 }
 }
 
-/// The events of a trace, or the first refusal: 1; record by record 2 to 6; 7 after all records, where either run is
-/// short.
+/// How many of the events retire an instruction.
+pub fn retirements(events: &[Event]) -> usize {
+    events.iter().filter(|e| matches!(e, Event::Retired(_))).count()
+}
+
+/// The events of a trace, or the first refusal: 1; record by record 2 to 6; 7 after all records, where costs or answers
+/// are short. A trace run is lent no reasons.
 pub fn read_trace(s: &[u8], room: Room) -> Result<Vec<Event>, Refused> {
     if s.len() > 16_777_216 {
         return Err((1, 0));
@@ -135,8 +144,17 @@ pub fn read_trace(s: &[u8], room: Room) -> Result<Vec<Event>, Refused> {
         });
         at += 4 + expected;
     }
-    let retirements = events.iter().filter(|e| matches!(e, Event::Retired(_))).count();
-    if room.costs < 4 * retirements || room.answers < retirements {
+    let n = retirements(&events);
+    if room.costs < 4 * n || room.answers < n {
+        return Err((7, s.len()));
+    }
+    Ok(events)
+}
+
+/// The same of a run that says why, which is lent reasons: 7 also where these are short.
+pub fn read_why(s: &[u8], room: Room) -> Result<Vec<Event>, Refused> {
+    let events = read_trace(s, room)?;
+    if room.reasons < retirements(&events) {
         return Err((7, s.len()));
     }
     Ok(events)
@@ -240,9 +258,11 @@ fn step_rust(profile: u32, t: &mut Oep060Timing, e: &Event) -> Option<Paid> {
             };
             let cached = r.flags & 2 != 0;
             let answer = cpu.answer_by(profile, cached);
+            let why = cpu.why_by(profile, cached, answer);
             let cost = cpu.cycles_by(profile, r.raw, cached);
+            why.holds_at(r.op, cost);
             *t = cpu.oep060;
-            Some(Paid { cost, answer })
+            Some(Paid { cost, answer, why })
         }
         Event::Break => {
             let mut cpu = CpuCore { oep060: std::mem::take(t), ..CpuCore::default() };

@@ -1,6 +1,7 @@
-//! What the cost lister, `replay` and `show_trace` must print, from the independent reader and the Rust module; and the
-//! examples.
+//! What the cost lister, `replay`, `show_trace` and `why` must print, from the independent reader and the Rust module;
+//! and the examples.
 use crate::core060::cpu::{CRATE, MENDED};
+use crate::core060::reasons::REASONS;
 use crate::format::*;
 use std::fmt::Write as _;
 use std::path::Path;
@@ -64,6 +65,50 @@ pub fn replay(profile: u32, input: &[u8]) -> String {
     text
 }
 
+// What the branch cache predicted, by its number.
+const PREDICTED: [&str; 4] = ["not-consulted", "miss", "predicted-not-taken", "predicted-taken"];
+
+// The registers of a mask, in rising order.
+fn registers(mask: u16) -> String {
+    let name = |bit: usize| format!("{}{}", if bit < 8 { 'D' } else { 'A' }, bit % 8);
+    let named: Vec<String> = (0..16).filter(|bit| mask >> bit & 1 != 0).map(name).collect();
+    if named.is_empty() { "-".into() } else { named.join(",") }
+}
+
+/// The reasons of a trace, by a profile; in full with the head, the registers that stand in the way, and how often each
+/// reason is given.
+pub fn why(profile: u32, full: bool, trace: &[u8]) -> String {
+    let events = match short(trace) {
+        Ok(events) => events,
+        Err(line) => return line,
+    };
+    let mut text = "index opcode clocks reason predicted".to_string();
+    text.push_str(if full { " head at registers\n" } else { "\n" });
+    let mut state = State::default();
+    let (mut count, mut total, mut given) = (0u64, 0u64, [0u64; REASONS.len()]);
+    for e in &events {
+        // the window as this retirement meets it
+        let head = match state.timing.pending_head {
+            Some(_) => format!("{:04X} {:08X}", state.head.op, state.head.address),
+            None => "- -".into(),
+        };
+        let (Some(Paid { cost, answer, why }), Event::Retired(r)) = (step(profile, &mut state, e), e) else { continue };
+        write!(text, "{count} {:04X} {cost} {} {}", r.op, why.reason.word(), PREDICTED[answer as usize]).unwrap();
+        if full {
+            write!(text, " {head} {}", registers(why.registers)).unwrap();
+        }
+        text.push('\n');
+        count += 1;
+        total += cost as u64;
+        given[why.reason as usize] += 1;
+    }
+    writeln!(text, "total {count} {total}").unwrap();
+    if full {
+        REASONS.iter().zip(given).for_each(|(word, n)| writeln!(text, "{word} {n}").unwrap());
+    }
+    text
+}
+
 pub fn show_trace(trace: &[u8]) -> String {
     let events = match short(trace) {
         Ok(events) => events,
@@ -97,6 +142,14 @@ pub fn show_trace_input() -> Vec<u8> {
         events.push(retired(0x0BAD << flags % 5, flags, raw as u32, 0xFFFF_FFFF >> flags, raw));
         events.push(if raw < 0 { Event::ClearUser } else { Event::Break });
     }
+    bytes(&events)
+}
+
+/// A trace for `why`: every reason, and then pairs that only the crate makes.
+pub fn why_input() -> Vec<u8> {
+    let mut events = crate::tries::all();
+    events.push(Event::Break);
+    events.extend(over_pairing());
     bytes(&events)
 }
 
@@ -218,6 +271,8 @@ pub fn examples(to: &Path) -> std::io::Result<()> {
     for (name, trace) in all {
         write(format!("{name}.txt"), cost_lister(CRATE, &trace).as_bytes())?;
         write(format!("{name}.show.txt"), show_trace(&trace).as_bytes())?;
+        write(format!("{name}.why.txt"), why(CRATE, false, &trace).as_bytes())?;
+        write(format!("{name}.why-full.txt"), why(CRATE, true, &trace).as_bytes())?;
         write(format!("{name}.trace"), &trace)?;
     }
     let replayed = |profile, image: &[u8], events: &[Event]| replay(profile, &[image, &bytes(events)].concat());
@@ -233,6 +288,9 @@ pub fn examples(to: &Path) -> std::io::Result<()> {
     let later = replayed(CRATE, &head, &worked());
     assert_eq!(later, replayed(CRATE, &old, &worked()));
     write("worked.later.replay.txt".into(), later.as_bytes())?;
-    write("over-pairing.mended.txt".into(), cost_lister(MENDED, &bytes(&over_pairing())).as_bytes())?;
+    let mended = bytes(&over_pairing());
+    write("over-pairing.mended.txt".into(), cost_lister(MENDED, &mended).as_bytes())?;
+    write("over-pairing.mended.why.txt".into(), why(MENDED, false, &mended).as_bytes())?;
+    write("over-pairing.mended.why-full.txt".into(), why(MENDED, true, &mended).as_bytes())?;
     write("over-pairing.mended.replay.txt".into(), replayed(MENDED, &fresh, &over_pairing()).as_bytes())
 }

@@ -7,10 +7,11 @@
 //! oracle worked        the worked instructions of document 01 that are run: the fallback, and RTS that flowed
 //! oracle cases_input, oracle cases    the cases that the gate replays, and what the port must answer
 //! oracle lister_limit                 what the lister must print of 65,536 and of 65,537 bytes of breaks
-//! oracle cost_lister [crate|mended], oracle replay [crate|mended], oracle show_trace
-//!                                     what these programs must print of standard input
-//! oracle show_trace_input             the trace that the gate shows
+//! oracle cost_lister [crate|mended], oracle replay [crate|mended], oracle show_trace, oracle why [full] [crate|mended]
+//!                                     what these programs must print of standard input; `full` may stand last
+//! oracle show_trace_input, oracle why_input   the traces that the gate shows and explains
 //! oracle random_trace SEED            a trace of up to some 3,000 records, one in two damaged
+//! oracle random_why SEED              one to be asked why, one in four damaged
 //! oracle random_replay SEED           an image of either kind, one in three damaged, and such a trace
 //! oracle examples DIR                 writes the examples and what the programs must print of them
 //! oracle differential SEED SCALE RUNNER..   the port's program `cases`, run by RUNNER, against this module
@@ -20,8 +21,10 @@ mod differential;
 mod format;
 mod listing;
 mod page;
+mod tries;
 mod core060 {
     pub mod cpu;
+    pub mod reasons;
     pub mod timing_060;
 }
 
@@ -103,7 +106,24 @@ fn differential(words: &[String]) -> ! {
 
 const USAGE: &str = "oracle all_opcodes | profile_differences | rule_page DEFINITION | worked | cases_input | cases \
     | lister_limit | cost_lister [crate|mended] | replay [crate|mended] | show_trace | show_trace_input \
-    | random_trace SEED | random_replay SEED | examples DIR | differential SEED SCALE RUNNER..";
+    | why [full] [crate|mended] | why_input | random_trace SEED | random_why SEED | random_replay SEED \
+    | examples DIR | differential SEED SCALE RUNNER..";
+
+fn usage() -> ! {
+    eprintln!("usage: {USAGE}");
+    std::process::exit(2);
+}
+
+// What the words behind `why` say: the profile, and whether all is told.
+fn why_words(words: &[&str]) -> Option<(u32, bool)> {
+    match *words {
+        [] | ["crate"] => Some((CRATE, false)),
+        ["mended"] => Some((MENDED, false)),
+        ["full"] | ["full", "crate"] | ["crate", "full"] => Some((CRATE, true)),
+        ["full", "mended"] | ["mended", "full"] => Some((MENDED, true)),
+        _ => None,
+    }
+}
 
 fn main() {
     let words: Vec<String> = std::env::args().skip(1).collect();
@@ -118,7 +138,8 @@ fn main() {
     };
     let mut out = BufWriter::new(std::io::stdout().lock());
     let mut print = |text: String| out.write_all(text.as_bytes());
-    let done = match words.iter().map(String::as_str).collect::<Vec<_>>()[..] {
+    let words: Vec<&str> = words.iter().map(String::as_str).collect();
+    let done = match words[..] {
         ["all_opcodes"] => all_opcodes(&mut out),
         ["profile_differences"] => profile_differences(&mut out),
         ["rule_page", definition] => rule_page(definition, &mut out),
@@ -132,13 +153,16 @@ fn main() {
         ["replay", "mended"] => input().and_then(|s| print(listing::replay(MENDED, &s))),
         ["show_trace"] => input().and_then(|s| print(listing::show_trace(&s))),
         ["show_trace_input"] => out.write_all(&listing::show_trace_input()),
+        ["why", ref rest @ ..] => {
+            let (profile, full) = why_words(rest).unwrap_or_else(|| usage());
+            input().and_then(|s| print(listing::why(profile, full, &s)))
+        }
+        ["why_input"] => out.write_all(&listing::why_input()),
         ["random_replay", seed] => out.write_all(&differential::random_replay(seed.parse().unwrap_or(0))),
+        ["random_why", seed] => out.write_all(&differential::random_why(seed.parse().unwrap_or(0))),
         ["random_trace", seed] => out.write_all(&differential::random_trace(seed.parse().unwrap_or(0))),
         ["examples", folder] => listing::examples(std::path::Path::new(folder)),
-        _ => {
-            eprintln!("usage: {USAGE}");
-            std::process::exit(2);
-        }
+        _ => usage(),
     };
     if let Err(why) = done.and_then(|()| out.flush()) {
         eprintln!("oracle: {why}");

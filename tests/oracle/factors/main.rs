@@ -5,6 +5,7 @@
 
 mod core060 {
     pub mod cpu;
+    pub mod reasons;
     pub mod timing_060;
 }
 mod pair;

@@ -1,5 +1,6 @@
 //! Both sides, stepped together and compared.
 use crate::core060::cpu::ANSWERS;
+use crate::core060::reasons::REASONS;
 use crate::sides::*;
 use crate::tally::Tally;
 
@@ -11,10 +12,11 @@ pub fn slots_from(shift: usize) -> Slots {
     }
 }
 
-/// One thread's two sides, which start as `slots`.
+/// One thread's two sides, which start as `slots`; the library twice, for the step and for the one that says why.
 pub struct Pair<'a> {
     rust: Rust,
     library: Library,
+    telling: Library,
     slots: Slots,
     tally: &'a Tally,
     steps: u64,
@@ -23,7 +25,8 @@ pub struct Pair<'a> {
 impl<'a> Pair<'a> {
     pub fn new(tally: &'a Tally) -> Self {
         let slots = slots_from(0);
-        Pair { rust: Rust::new(&slots), library: Library::new(&slots), slots, tally, steps: 0 }
+        let (library, telling) = (Library::new(&slots), Library::new(&slots));
+        Pair { rust: Rust::new(&slots), library, telling, slots, tally, steps: 0 }
     }
 
     /// How many steps since this was last asked.
@@ -32,19 +35,27 @@ impl<'a> Pair<'a> {
     }
 
     /// A retirement on both sides: the cost, what the branch cache answered, the next window with its head's opcode and
-    /// address, the slot's byte and its tag. What was just written is slow to read at once, so that the sides take
-    /// turns.
+    /// address, the slot's byte and its tag; and of the step that says why all of these and the reason. What was just
+    /// written is slow to read at once, so that the sides take turns.
     #[inline(always)]
     pub fn compare(&mut self, s: &Step) {
         self.library.put(s);
+        self.telling.put(s);
         self.rust.put(s);
-        let library_paid = self.library.retire(s);
-        let rust_paid = self.rust.retire(s);
-        let library = self.library.after(s, library_paid);
-        let rust = self.rust.after(s, rust_paid);
+        let paid = self.library.retire(s);
+        let told = self.telling.explain(s);
+        let expected = self.rust.explain(s);
+        let library = self.library.after(s, paid);
+        let telling = self.telling.after(s, told.paid);
+        let rust = self.rust.after(s, expected.paid);
         self.steps += 1;
         if rust != library {
             self.tally.differs(&step_text(s), &after_text(s, &rust), &after_text(s, &library));
+        }
+        if rust != telling || expected.reason != told.reason {
+            let text = |reason, after| format!("{}, {}", reason_text(reason), after_text(s, after));
+            let (rust, telling) = (text(expected.reason, &rust), text(told.reason, &telling));
+            self.tally.differs(&format!("says why: {}", step_text(s)), &rust, &telling);
         }
     }
 
@@ -54,13 +65,15 @@ impl<'a> Pair<'a> {
         let (tag, byte) = (self.slots.tags[i], self.slots.bytes[i]);
         self.rust.put_slot(i, tag, byte);
         self.library.put_slot(i, tag, byte);
+        self.telling.put_slot(i, tag, byte);
         self.look_at_slots(|| format!("another slot than {i:02X} has changed in the steps up to: {}", step_text(s)));
     }
 
     fn look_at_slots(&mut self, what: impl Fn() -> String) {
-        if !(self.rust.has(&self.slots) && self.library.has(&self.slots)) {
+        if !(self.rust.has(&self.slots) && self.library.has(&self.slots) && self.telling.has(&self.slots)) {
             let wrong = |side: &dyn Side| slots_text(side, &self.slots);
-            self.tally.differs(&what(), &wrong(&self.rust), &wrong(&self.library));
+            let library = format!("{}; as it says why {}", wrong(&self.library), wrong(&self.telling));
+            self.tally.differs(&what(), &wrong(&self.rust), &library);
             self.put_slots_back();
         }
     }
@@ -96,6 +109,7 @@ impl<'a> Pair<'a> {
     pub fn put_slots_back(&mut self) {
         self.rust.put_slots(&self.slots);
         self.library.put_slots(&self.slots);
+        self.telling.put_slots(&self.slots);
     }
 }
 
@@ -142,6 +156,10 @@ fn step_text(s: &Step) -> String {
 fn paid_text(p: Paid) -> String {
     let answer = ANSWERS.get(p.answer as usize).unwrap_or(&"no answer");
     format!("cost {}, answer {:X} ({answer})", p.cost, p.answer)
+}
+
+fn reason_text(reason: u32) -> String {
+    format!("reason {reason:X} ({})", REASONS.get(reason as usize).unwrap_or(&"no reason"))
 }
 
 fn after_text(s: &Step, a: &After) -> String {

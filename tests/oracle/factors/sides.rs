@@ -1,9 +1,21 @@
-//! The two sides: the Rust module over its stand-in CpuCore, and the proved library over the numbers that it is lent.
+//! The two sides: the Rust module over its stand-in CpuCore, and the proved library over the numbers that it is lent,
+//! which has a step and one that also says why.
 use crate::core060::cpu::{CACR_060_EBC, CpuCore, PCR_ESS};
 use crate::core060::timing_060::{BranchCache060, Oep060Timing, PendingHead060};
 
 unsafe extern "C" {
     fn timing_060_retire_at(
+        tags: *mut u32,
+        state: *mut u8,
+        window: *mut u16,
+        profile: u32,
+        op: u16,
+        flags: u16,
+        ppc: u32,
+        pc: u32,
+        raw: i32,
+    ) -> u64;
+    fn timing_060_explain_at(
         tags: *mut u32,
         state: *mut u8,
         window: *mut u16,
@@ -87,7 +99,14 @@ pub struct Paid {
     pub answer: u32,
 }
 
-/// That, and what it leaves.
+/// That, and why it costs that, by its number.
+#[derive(Clone, Copy, PartialEq, Eq)]
+pub struct Explained {
+    pub paid: Paid,
+    pub reason: u32,
+}
+
+/// What a step gives and leaves.
 #[derive(Clone, Copy, PartialEq, Eq)]
 pub struct After {
     pub paid: Paid,
@@ -102,7 +121,6 @@ pub trait Side {
     fn window(&self) -> Window;
     fn tags(&self) -> &[u32];
     fn bytes(&self) -> &[u8];
-    fn retire(&mut self, s: &Step) -> Paid;
     fn break_window(&mut self);
     fn clear_all(&mut self);
     fn clear_user(&mut self);
@@ -141,6 +159,27 @@ impl Rust {
         let oep060 = Oep060Timing { branch_cache, pending_head: None };
         Rust { cpu: CpuCore { oep060, ..CpuCore::default() }, name: [0; 3] }
     }
+
+    /// The answer and the reason are found before the step, which changes cache and head. That the cost goes with the
+    /// reason is seen to here.
+    #[inline(always)]
+    pub fn explain(&mut self, s: &Step) -> Explained {
+        self.name = name_of(s.op, s.ppc);
+        let cpu = &mut self.cpu;
+        cpu.ir = s.op as u32;
+        cpu.ppc = s.ppc;
+        cpu.pc = s.pc;
+        cpu.change_of_flow = s.flags & FLOWED != 0;
+        cpu.pcr = if s.flags & ESS != 0 { PCR_ESS } else { 0 };
+        cpu.cacr = if s.flags & EBC != 0 { CACR_060_EBC } else { 0 };
+        cpu.supervisor = s.flags & SUPERVISOR != 0;
+        let cached = s.flags & CACHED != 0;
+        let answer = cpu.answer_by(s.profile, cached);
+        let why = cpu.why_by(s.profile, cached, answer);
+        let cost = cpu.cycles_by(s.profile, s.raw, cached);
+        why.holds_at(s.op, cost);
+        Explained { paid: Paid { cost: cost as i64, answer: answer as u32 }, reason: why.reason as u32 }
+    }
 }
 
 impl Side for Rust {
@@ -167,21 +206,6 @@ impl Side for Rust {
         self.cpu.oep060.branch_cache.oracle_parts().1
     }
 
-    fn retire(&mut self, s: &Step) -> Paid {
-        self.name = name_of(s.op, s.ppc);
-        let cpu = &mut self.cpu;
-        cpu.ir = s.op as u32;
-        cpu.ppc = s.ppc;
-        cpu.pc = s.pc;
-        cpu.change_of_flow = s.flags & FLOWED != 0;
-        cpu.pcr = if s.flags & ESS != 0 { PCR_ESS } else { 0 };
-        cpu.cacr = if s.flags & EBC != 0 { CACR_060_EBC } else { 0 };
-        cpu.supervisor = s.flags & SUPERVISOR != 0;
-        let cached = s.flags & CACHED != 0;
-        let answer = cpu.answer_by(s.profile, cached) as u32;
-        Paid { cost: cpu.cycles_by(s.profile, s.raw, cached) as i64, answer }
-    }
-
     fn break_window(&mut self) {
         self.cpu.break_060_pipeline();
     }
@@ -203,6 +227,23 @@ pub struct Library {
 impl Library {
     pub fn new(slots: &Slots) -> Self {
         Library { slots: *slots, window: SHUT }
+    }
+
+    /// One number: the cost in its low half, the answer in its high one.
+    pub fn retire(&mut self, s: &Step) -> Paid {
+        let (tags, bytes) = (self.slots.tags.as_mut_ptr(), self.slots.bytes.as_mut_ptr());
+        let window = self.window.as_mut_ptr();
+        let paid = unsafe { timing_060_retire_at(tags, bytes, window, s.profile, s.op, s.flags, s.ppc, s.pc, s.raw) };
+        Paid { cost: paid as u32 as i64, answer: (paid >> 32) as u32 }
+    }
+
+    /// One number: the cost in its low half, the answer in the next eight bits, and the reason in all that is left.
+    pub fn explain(&mut self, s: &Step) -> Explained {
+        let (tags, bytes) = (self.slots.tags.as_mut_ptr(), self.slots.bytes.as_mut_ptr());
+        let window = self.window.as_mut_ptr();
+        let told = unsafe { timing_060_explain_at(tags, bytes, window, s.profile, s.op, s.flags, s.ppc, s.pc, s.raw) };
+        let paid = Paid { cost: told as u32 as i64, answer: (told >> 32) as u32 & 0xFF };
+        Explained { paid, reason: (told >> 40) as u32 }
     }
 }
 
@@ -226,14 +267,6 @@ impl Side for Library {
 
     fn bytes(&self) -> &[u8] {
         &self.slots.bytes
-    }
-
-    /// One number: the cost in its low half, the answer in its high one.
-    fn retire(&mut self, s: &Step) -> Paid {
-        let (tags, bytes) = (self.slots.tags.as_mut_ptr(), self.slots.bytes.as_mut_ptr());
-        let window = self.window.as_mut_ptr();
-        let paid = unsafe { timing_060_retire_at(tags, bytes, window, s.profile, s.op, s.flags, s.ppc, s.pc, s.raw) };
-        Paid { cost: paid as u32 as i64, answer: (paid >> 32) as u32 }
     }
 
     fn break_window(&mut self) {
