@@ -2,13 +2,17 @@
 -- Assumes nothing.
 use Prim.Native.Nat.{ℕ, _+_, _^_, _≤_, _<_}
 use mathlib.Core.Path.{_≡_, refl, sym, ap, subst, _∙_}
+use mathlib.Core.Logic.{⊎-elim}
 use mathlib.Core.Bool.{Bool}
 use mathlib.Core.List.{List, [], _∷_}
 use native.Mathlib.Omega.{arith}
 use lib.ListN.{length, getD}
+use types.Run.{OneOf}
+use denote.Enum.Declared.{tagOf}
 use Rattle.class_word.specs.declared.Clocks.{Clocks}
 use Rattle.text.specs.Written.{written, writtenOf}
 use Rattle.profile.specs.declared.Profile.{Profile}
+use Rattle.state.proofs.Event.{the-type}
 use Rattle.state.specs.declared.Retirement.{Retirement}
 use Rattle.state.specs.declared.Event.{Event}
 use Rattle.state.specs.declared.Event.the-variants.{Retired, Broken, ClearedAll, ClearedUser}
@@ -31,6 +35,13 @@ use Rattle.explaining.proofs.Going.{Going, going-quiet, going-index, go
 held : (t : Oep060Timing) → stateAt (lentOf t) ≡ t
 held t = ap (timingAt (t .cache .tags) (t .cache .state)) (window-held (t .window))
 
+-- a break or a clear, by its tag, is no retirement
+no-retirement : (e : Event) → OneOf (1 ∷ 2 ∷ 3 ∷ []) (tagOf the-type e) → countOf (e ∷ []) ≡ 0
+no-retirement (Retired r) h = absurd (⊎-elim (λ z. omega arith) (⊎-elim (λ z. omega arith) (λ z. omega arith)) h)
+no-retirement Broken h = refl
+no-retirement ClearedAll h = refl
+no-retirement ClearedUser h = refl
+
 quiet-lent : (p : Profile) (l : Lent) (e : Event) → countOf (e ∷ []) ≡ 0 → paidFor p l e .lent ≡ eventAtOf p l e
 quiet-lent p l (Retired r) z = absurd (omega arith)
 quiet-lent p l Broken z = refl
@@ -39,10 +50,10 @@ quiet-lent p l ClearedUser z = refl
 
 module _ {full : Bool} {p : Profile} {trace out₀ : List ℕ} {start : ℕ} {t₀ : Oep060Timing} {out : List ℕ} {place at k sum : ℕ} {counts : List ℕ} (l : Lent)
     (g : Going full p trace out₀ start t₀ out place at k sum counts (stateAt l)) {e : Event} {next : ℕ} (q : readAt trace at ≡ Got e next) where
-  pub turn-quiet : {f : Event} → e ≡ f → countOf (f ∷ []) ≡ 0 → {x : Clocks} {a : ℕ} {m : Lent} → paid x a m ≡ paidFor p l e
+  pub turn-quiet : OneOf (1 ∷ 2 ∷ 3 ∷ []) (tagOf the-type e) → {x : Clocks} {a : ℕ} {m : Lent} → paid x a m ≡ paidFor p l e
       → Going full p trace out₀ start t₀ out place next k sum counts (stateAt m)
-  turn-quiet told z h =
-      let none : countOf (e ∷ []) ≡ 0 = ap (λ (x : Event). countOf (x ∷ [])) told ∙ z in
+  turn-quiet tag h =
+      let none : countOf (e ∷ []) ≡ 0 = no-retirement e tag in
       going-quiet g e next q none (ap stateAt (ap (λ (y : Paid). y .lent) h ∙ quiet-lent p l e none) ∙ held (afterOf p (stateAt l) e))
 
   module _ {r : Retirement} (told : e ≡ Retired r) {x : Explained} {m : Lent} (h : explainedAt x m ≡ explainAtOf p l r) where

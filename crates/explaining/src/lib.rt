@@ -94,13 +94,7 @@ fn put_lines(
                         total += cost.0 as u64;
                         index += 1;
                     }
-                    Event::Broken => {
-                        in_place::event_at(tags, state, window, profile, e);
-                    }
-                    Event::ClearedAll => {
-                        in_place::event_at(tags, state, window, profile, e);
-                    }
-                    Event::ClearedUser => {
+                    Event::Broken | Event::ClearedAll | Event::ClearedUser => {
                         in_place::event_at(tags, state, window, profile, e);
                     }
                 }

@@ -119,53 +119,18 @@ loop-again c =
     let small : c .before .before .before .before .before .before .before .before .explain-in-place .result .cost .0 < 2 ^ 32 = search needs in
     turn-line (from (c .before .before .before .before .before .before .before .before .before .before .before .before .before .before .before .before)) (going (c .before .before .before .before .before .before .before .before .before .before .before .before .before .before .before .before)) (got (c .before .before .before .before .before .before .before .before .before .before .before .before .before .before .before .before)) (c .before .before .before .before .before .before .before .before .before .before .before .before .before .e .given .1) (c .before .before .before .before .before .before .before .before .explain-in-place .ensures) (c .before .before .before .before .before .before .put-line .ensures) (c .before .before .count-one .ensures) small
 
-enum-told-3 : tie.Need-enum-told-3 Inv-loop μ-loop
-enum-told-3 c = search needs
-
 event-at-requires : tie.Need-event-at-requires Inv-loop μ-loop
 event-at-requires c κs = search needs
 
 loop-less-2 : tie.Need-loop-less-2 Inv-loop μ-loop
 loop-less-2 c =
-    let k = c .before .before .before .before .before .before .before in
+    let k = c .before .before .before .before .before .before in
     going-nearer (going k) _ _ (got k)
 
 loop-again-2 : tie.Need-loop-again-2 Inv-loop μ-loop
 loop-again-2 c =
-    let k = c .before .before .before .before .before .before .before in
-    turn-quiet (from k) (going k) (got k) (c .before .before .before .before .enum-told3 .given .1) refl (c .event-at .ensures .0)
-
-enum-told-4 : tie.Need-enum-told-4 Inv-loop μ-loop
-enum-told-4 c = search needs
-
-event-at-requires-2 : tie.Need-event-at-requires-2 Inv-loop μ-loop
-event-at-requires-2 c κs = search needs
-
-loop-less-3 : tie.Need-loop-less-3 Inv-loop μ-loop
-loop-less-3 c =
-    let k = c .before .before .before .before .before .before .before in
-    going-nearer (going k) _ _ (got k)
-
-loop-again-3 : tie.Need-loop-again-3 Inv-loop μ-loop
-loop-again-3 c =
-    let k = c .before .before .before .before .before .before .before in
-    turn-quiet (from k) (going k) (got k) (c .before .before .before .before .enum-told4 .given .1) refl (c .event-at2 .ensures .0)
-
-enum-told-5 : tie.Need-enum-told-5 Inv-loop μ-loop
-enum-told-5 c = search needs
-
-event-at-requires-3 : tie.Need-event-at-requires-3 Inv-loop μ-loop
-event-at-requires-3 c κs = search needs
-
-loop-less-4 : tie.Need-loop-less-4 Inv-loop μ-loop
-loop-less-4 c =
-    let k = c .before .before .before .before .before .before .before in
-    going-nearer (going k) _ _ (got k)
-
-loop-again-4 : tie.Need-loop-again-4 Inv-loop μ-loop
-loop-again-4 c =
-    let k = c .before .before .before .before .before .before .before in
-    turn-quiet (from k) (going k) (got k) (c .before .before .before .before .enum-told5 .given .1) refl (c .event-at3 .ensures .0)
+    let k = c .before .before .before .before .before .before in
+    turn-quiet (from k) (going k) (got k) (c .before .before .before .before .match2 .keys2) (c .event-at .ensures .0)
 
 pub put-lines-spec : {M : Type 1} → statement M
 put-lines-spec =
@@ -191,15 +156,6 @@ put-lines-spec =
     add-index
     loop-less
     loop-again
-    enum-told-3
     event-at-requires
     loop-less-2
-    loop-again-2
-    enum-told-4
-    event-at-requires-2
-    loop-less-3
-    loop-again-3
-    enum-told-5
-    event-at-requires-3
-    loop-less-4
-    loop-again-4)
+    loop-again-2)
