@@ -1,6 +1,8 @@
 // Prints OPCODE WORD USE DEF of all 65,536 opcodes, a line each, in upper-case hexadecimal.
 //
 // `line` asks `classifier` and `masks` and spells with `text`; `page` has the lines of 256 opcodes, written at once.
+#![tactic(auto)]
+
 ghost use Rattle.std.specs.Prelude.{◌<◌};
 
 use libc::STDOUT_FILENO;

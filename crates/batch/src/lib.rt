@@ -4,6 +4,8 @@
 // `run_batch` judges first, since a refused batch writes no place; then each record is copied out, handed to the step
 // by value (`step`), and paid. The state and its profile come, and are carried, as the step takes them. `host` judges
 // by `batch_verdict` too, and runs a batch of words in place.
+#![tactic(auto)]
+
 ghost use Rattle.std.specs.Prelude.{◌≡◌, ◌+◌, ◌*◌, ◌<◌, ◌≤◌, min, length, take};
 ghost use Rattle.refusals.specs.Runs.{rooms, runs};
 ghost use Rattle.batch.specs.Judge.{batch_verdict_of};
@@ -18,14 +20,14 @@ use step::{Chosen, cycles_060};
 const MOST_RECORDS: usize = 1048576;
 
 // The verdict on a batch, and how many of its records are run: all, or none if it is refused.
-#[derive(Drop)]
+#[derive(Clone, Copy)]
 struct Judged {
     run: usize,
     verdict: Verdict,
 }
 
 // What the loop carries from record to record.
-#[derive(Drop)]
+#[derive(Clone, Copy)]
 struct Carried {
     chosen: Chosen,
     total: u64,

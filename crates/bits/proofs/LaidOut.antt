@@ -15,6 +15,11 @@ element Syntax.opd_true = 0
 element Syntax.opd_false = 0
 element Syntax.opd_unit = 0
 element (Syntax.ptr_const n) = 0
+element (Syntax.size_of _) = 0
+element (Syntax.align_of _) = 0
+element (Syntax.num_of _ _) = 0
+element (Syntax.fn_addr _ _) = 0
+element (Syntax.vtable _ _) = 0
 
 abbrev elements : List Syntax.Opd → List ℕ
 elements [] = []
@@ -27,6 +32,8 @@ array (Syntax.op1 op x) = []
 array (Syntax.addr_of from) = []
 array (Syntax.aggregate xs) = elements xs
 array (Syntax.repeat x n) = []
+array (Syntax.repeat_p _ _) = []
+array (Syntax.select _ _ _) = []
 
 -- what a statement lays out
 abbrev pub laid_out : Syntax.Body → List ℕ
@@ -40,3 +47,6 @@ laid_out (Syntax.switch on arms) = []
 laid_out (Syntax.exit n) = []
 laid_out Syntax.return = []
 laid_out (Syntax.call name arguments to) = []
+laid_out Syntax.unreachable = []
+laid_out (Syntax.call_v _ _ _ _) = []
+laid_out (Syntax.lend_static _ _ _) = []

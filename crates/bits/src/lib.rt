@@ -3,6 +3,8 @@
 // `mode_of` and `reg_of` name the operand in the low six bits, `dst_mode_of` and `dst_reg_of` the two fields above it:
 // the destination of MOVE, elsewhere the opmode and a register. `classifier` and `masks` call them. The patterns, rows
 // and words that are defined in specs/ serve the specs of all crates.
+#![tactic(auto)]
+
 ghost use Rattle.std.specs.Prelude.{◌≡◌};
 ghost use Rattle.bits.specs.Fields.{mode_of, reg_of, dst_mode_of, dst_reg_of};
 

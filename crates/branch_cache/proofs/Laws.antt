@@ -1,7 +1,7 @@
 -- What document 01 says of hits, misses, updates and clears, as laws of a slot and of the whole cache on plain values.
 -- Assumes nothing.
 use mathlib.Core.Path.{◌≡◌, refl, ap, ◌∙◌}
-use mathlib.Core.Bool.{Bool, true, false, ◌&&◌, and_false}
+use mathlib.Core.Bool.{Bool, true, false, ◌&&◌, and-false}
 use Prim.Native.Nat.{ℕ, zero, suc, ◌<◌}
 use native.Mathlib.Omega.{arith}
 use lib.ListN.{length, get_or, replicate, length-set, length-replicate, length-map, get_or-map}
@@ -20,7 +20,7 @@ use Rattle.branch_cache.specs.Cache.{slot_of, slot_at, slot_put, clear_all_of, c
 pub slot_foreign_misses : (slot : Slot) (pc : ℕ) → (slot_of slot.tag ≡ slot_of pc → ⊥) → hit_of slot pc ≡ false
 slot_foreign_misses slot pc f =
     ap (λ (t : Bool). valid_of slot.byte && t) (ne_eqb slot.tag pc (λ (e : slot.tag ≡ pc). f (ap slot_of e)))
-    ∙ and_false (valid_of slot.byte)
+    ∙ and-false (valid_of slot.byte)
 
 -- one slot of the cache read and put
 

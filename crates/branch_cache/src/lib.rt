@@ -3,6 +3,8 @@
 // Read `slot` first: the hit, the prediction and the update of one slot. The cache here picks the slot of an address
 // and asks it, by value, and has the clears. `stored` asks and updates on lent arrays, and stores that slot alone.
 // `step` calls the one by value, `in_place` the one that stores.
+#![tactic(auto)]
+
 mod slot;
 mod stored;
 
@@ -21,7 +23,7 @@ pub use slot::{Predicted, Slot};
 pub use stored::update_at;
 
 // Fixed arrays for the Rust's `Vec`s: no cache has a wrong length.
-#[derive(Drop)]
+#[derive(Clone, Copy)]
 pub struct BranchCache060 {
     pub tags: [u32; 256],
     pub state: [u8; 256],

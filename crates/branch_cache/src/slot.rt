@@ -3,14 +3,14 @@ ghost use Rattle.std.specs.Prelude.{◌≡◌};
 ghost use Rattle.branch_cache.specs.Slot.{hit_of, predict_of, counter_after_of, update_of};
 
 // One slot: the full address of a branch (the Rust's `tags[i]`) and its byte (`state[i]`).
-#[derive(Drop)]
+#[derive(Clone, Copy)]
 pub struct Slot {
     pub tag: u32,
     pub byte: u8,
 }
 
 // The Rust's `Option<bool>`: no hit, or a hit that predicts.
-#[derive(Drop)]
+#[derive(Clone, Copy)]
 pub enum Predicted {
     Miss,
     NotTaken,

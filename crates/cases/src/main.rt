@@ -4,6 +4,8 @@
 // `one_case` reads a header and `read_rest` what follows it; `lend` makes the lent bytes, and `run` chooses what is
 // called: `trace`, `image`, `batch`, the batch of words and the explained trace of `host`, or the break of `window`.
 // `print_line` prints what came of it.
+#![tactic(auto)]
+
 ghost use Rattle.std.specs.Prelude.{◌≡◌, true, ◌+◌, ◌*◌, ◌≤◌, length};
 
 use host::HostRan;
@@ -145,7 +147,7 @@ fn fill(lent: &mut [u8]) {
 }
 
 // The first words of all are those of some bytes.
-#[derive(Drop)]
+#[derive(Clone, Copy)]
 struct Words {
     count: usize,
     all: [u32; 16384],
@@ -232,7 +234,7 @@ fn run_break(timing: Oep060Timing) -> Ran {
 }
 
 // What a case gives: the numbers of its line, and the image of the next state.
-#[derive(Drop)]
+#[derive(Clone, Copy)]
 struct Done {
     ran: HostRan,
     image: [u8; IMAGE_LENGTH],

@@ -3,11 +3,13 @@
 // `Info060::new` packs class, clocks and flags by shifts; `class`, `cycles` and `has` answer from the word alone. The
 // crates of part 2 make words, and `window` and `cost` read them. `Clocks` is apart from raw counts, which `window`
 // has.
+#![tactic(auto)]
+
 ghost use Rattle.std.specs.Prelude.{◌≡◌};
 ghost use Rattle.class_word.specs.Word.{class_number, new_of, class_of, clocks_of, has, info, clocks};
 
 // The dispatch classes.
-#[derive(Drop)]
+#[derive(Clone, Copy)]
 pub enum OepClass {
     PoepSoep = 0,
     PoepOnly = 1,
@@ -16,11 +18,11 @@ pub enum OepClass {
 }
 
 // The entry of an opcode, packed: class(2) | clocks(5) | flags(9).
-#[derive(Drop)]
+#[derive(Clone, Copy)]
 pub struct Info060(pub u16);
 
 // A number of 68060 clocks.
-#[derive(Drop)]
+#[derive(Clone, Copy)]
 pub struct Clocks(pub u32);
 
 const CLASS_SHIFT: u16 = 0;

@@ -5,6 +5,8 @@
 // one match on the top four bits, over the rows of `low_groups`, `group_four` and `high_groups`, and lays no table out:
 // for the fast step `profile` has the same arms, joined with those of the masks. `operand` makes the words that rows
 // share; `lea_060` is handed on for the mended profile.
+#![tactic(auto)]
+
 mod group_four;
 mod high_groups;
 mod low_groups;

@@ -1,7 +1,7 @@
 -- A sound class word's base is at least 1 clock, and exactly 1 where the dispatch test passes, which no BRANCH word does.
 -- Assumes nothing.
 use Rattle.std.proofs.Common.{◌≡◌, ℕ, ◌+◌, ◌≤◌, Bool, true, false, cond, not, ◌&&◌, ◌||◌, eqb, leb, refl, arith, eq-eqb, eqb-true, leb-true}
-use borrow.Author.Tests.{not_true}
+use borrow.Author.Tests.{not-true}
 use Rattle.bits.proofs.Bools.{and_left, and_right}
 use Rattle.class_word.specs.Word.{has, class_of, clocks_of, BRANCH, VARIABLE, UNCLASSIFIED, EA_INDEXED}
 use Rattle.window.specs.declared.dispatch.Instruction.{Instruction}
@@ -39,7 +39,7 @@ sound_parts word e =
     then false q f g = cc
 
     not_both_lem : (p q : Bool) → not (p && q) ≡ true → p ≡ true → q ≡ false
-    not_both_lem true q f g = not_true q f
+    not_both_lem true q f g = not-true q f
     not_both_lem false q f g = cc
 
 module _ (i : Instruction) (k : Controls) (ok : sound i.word.0 ≡ true) where

@@ -17,7 +17,7 @@ const CYC_060_DBCC_EXPIRED: Clocks = Clocks(3);
 const CYC_060_MISPREDICT: Clocks = Clocks(7);
 
 // What the branch cache said of a branch before it retired.
-#[derive(Drop)]
+#[derive(Clone, Copy)]
 pub enum Answer {
     NotConsulted,
     Miss,
@@ -26,7 +26,7 @@ pub enum Answer {
 }
 
 // What a branch costs, and what the branch cache said of it.
-#[derive(Drop)]
+#[derive(Clone, Copy)]
 pub struct BranchCost {
     pub cost: Clocks,
     pub answer: Answer,

@@ -2,6 +2,8 @@
 //
 // `branch` has the cost of a branch, by what the cache answered. Here are the other two points, flowed and neither,
 // with the dispatch test of `window`. Nothing is stored: `step` and `in_place` ask the cache and put the next window.
+#![tactic(auto)]
+
 mod branch;
 
 ghost use Rattle.std.specs.Prelude.{◌≡◌, ◌-◌, not, ◌==◌};
@@ -19,7 +21,7 @@ use window::{Controls, Instruction, RawCount, Window};
 const CYC_060_FLOW_MIN: Clocks = Clocks(5);
 
 // What one retirement costs, and whether its instruction becomes the head.
-#[derive(Drop)]
+#[derive(Clone, Copy)]
 pub struct Charged {
     pub cost: Clocks,
     pub heads: bool,

@@ -3,6 +3,8 @@
 //
 // `input` reads both, `listing` makes the text from a fresh state; input that cannot be read, and a word that names no
 // profile, are said on standard error.
+#![tactic(auto)]
+
 use input::{Input, Word};
 use libc::{STDERR_FILENO, STDOUT_FILENO};
 use listing::LISTING_ROOM;

@@ -4,6 +4,8 @@
 // `counts` the lines of the reasons. Here all records of a trace are checked first (`records`), since a refusal is the
 // whole output; then each is read again and its event done in place, and a retirement's line is put as it is explained
 // (`reasons`). Only `why_text` is called from outside.
+#![tactic(auto)]
+
 mod counts;
 mod lines;
 mod registers;
@@ -31,7 +33,7 @@ use state::{Event, Oep060Timing};
 pub const WHY_ROOM: usize = 377319;
 
 // What the lines of all retirements come to: the place behind them, how many there are, and the sum of their costs.
-#[derive(Drop)]
+#[derive(Clone, Copy)]
 struct Put {
     place: usize,
     count: usize,

@@ -3,6 +3,8 @@
 // `results` has what a run or an explained step gives, as numbers, and the next state stored; `words` a batch as 32-bit
 // words. Each function here is a thin one over the crates below: raw counts and clocks are taken apart here and nowhere
 // above, and a profile comes as a number (`profile_at`).
+#![tactic(auto)]
+
 mod results;
 mod words;
 
@@ -30,7 +32,7 @@ use results::{fresh_at, put_accepted, put_timing, why_number};
 use window::{Instruction, RawCount};
 
 #[repr(C)]
-#[derive(Drop)]
+#[derive(Clone, Copy)]
 pub struct HostMasks {
     pub uses: u16,
     pub defs: u16,

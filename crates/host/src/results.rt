@@ -12,7 +12,7 @@ use state::Oep060Timing;
 
 // What a run gives.
 #[repr(C)]
-#[derive(Drop)]
+#[derive(Clone, Copy)]
 pub struct HostRan {
     // 0 where nothing is refused, else the refusal's number.
     pub refusal: u64,

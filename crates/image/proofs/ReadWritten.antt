@@ -8,7 +8,7 @@ use native.Mathlib.Omega.{arith}
 use lib.Dec.{eqb, ltb, leb}
 use lib.ListN.{length, take, drop, replicate, length-drop}
 use lib.Seq.{drop-drop, take-add, take_all}
-use borrow.Author.Tests.{not_false, eqb-true, leb-false, lt-ltb}
+use borrow.Author.Tests.{not-false, eqb-true, leb-false, lt-ltb}
 use Rattle.bits.specs.Words.{bit}
 use Rattle.bits.proofs.Bools.{and_left, and_right}
 use Rattle.little_endian.specs.Numbers.{number_at, bytes_of, Below, bytes_of_each}
@@ -46,7 +46,7 @@ window_by_lem : (o d b a p : ℕ) → (ltb 1 o || leb 8 b || (eqb o 0 && not (eq
 unfolding bits_of
 window_by_lem zero d b a p h =
     let dba : Bool = eqb d 0 && eqb b 0 && eqb a 0 in
-    let all : (dba && eqb p 0) ≡ true = not_false (dba && eqb p 0) (or_right (leb 8 b) (not (dba && eqb p 0)) h) in
+    let all : (dba && eqb p 0) ≡ true = not-false (dba && eqb p 0) (or_right (leb 8 b) (not (dba && eqb p 0)) h) in
     let three : dba ≡ true = and_left dba (eqb p 0) all in
     let two : (eqb d 0 && eqb b 0) ≡ true = and_left (eqb d 0 && eqb b 0) (eqb a 0) three in
     let ed : d ≡ 0 = eqb-true d 0 (and_left (eqb d 0) (eqb b 0) two) in
@@ -117,7 +117,7 @@ module _ (s : List ℕ) (b : Below 256 s) (accepted : image_verdict_of s ≡ Acc
   header_says new h =
       let p : Bool = eqb (number_at 2 s 0) 1290 in
       let q : Bool = eqb (number_at 2 s 2) 17 in
-      let e : (p && q) ≡ true = not_false (p && q) (rw new at h) in
+      let e : (p && q) ≡ true = not-false (p && q) (rw new at h) in
       (eqb-true (number_at 2 s 0) 1290 (and_left p q e), eqb-true (number_at 2 s 2) 17 (and_right p q e))
 
   -- kind 17: the round trip from an accepted image

@@ -3,6 +3,8 @@
 // Here are the places of an image's parts and the two entries: `image_write` looks at the room and has `write` put each
 // part; `image_read` judges the bytes in the order of the table and has `read` take each part. `host` and `replaying`
 // call the two.
+#![tactic(auto)]
+
 mod read;
 mod write;
 
@@ -44,7 +46,7 @@ const ADDRESS: usize = 1288;
 const OPCODE: usize = 1292;
 
 // What image writing answers.
-#[derive(Drop)]
+#[derive(Clone, Copy)]
 pub struct ImageWritten {
     pub verdict: Verdict,
     // How many bytes were written.
@@ -52,7 +54,7 @@ pub struct ImageWritten {
 }
 
 // What image reading answers.
-#[derive(Drop)]
+#[derive(Clone, Copy)]
 pub struct ImageRead {
     pub verdict: Verdict,
     pub timing: Oep060Timing,

@@ -15,7 +15,7 @@ use profile::Profile;
 use state::Event;
 
 // How many retirements an event is, its clocks, and what the cache predicted, as a number.
-#[derive(Drop)]
+#[derive(Clone, Copy)]
 pub struct Happened {
     pub count: usize,
     pub cost: Clocks,

@@ -4,6 +4,8 @@
 // three points of a retirement, `decoded` the opcodes that a run has decoded, `told` the two numbers that a step hands
 // back, and `events` breaks and clears. The step here equals the one by value (`step`): both are the definition's. It
 // carries no state and stores at most one slot. A single step looks its opcode up; a run asks its table first.
+#![tactic(auto)]
+
 mod ask;
 mod by_numbers;
 mod decoded;

@@ -2,6 +2,8 @@
 //
 // `read_input` reads standard input; `words` has the words. A program lends one byte more than it takes, so that longer
 // input is seen to be longer.
+#![tactic(auto)]
+
 mod words;
 
 ghost use Rattle.std.specs.Prelude.{length};
@@ -10,7 +12,7 @@ ghost use Rattle.input.specs.Input.{Within};
 use libc::STDIN_FILENO;
 pub use words::{Request, Word, profile_named, read_word, read_words};
 
-#[derive(Drop)]
+#[derive(Clone, Copy)]
 pub enum Input {
     // How many bytes came.
     Taken(usize),

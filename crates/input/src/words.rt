@@ -7,21 +7,21 @@ ghost use Rattle.input.specs.Words.{Says, asks_by, one_asks, both_ask, asks_of};
 use profile::Profile;
 
 // What a word names.
-#[derive(Drop)]
+#[derive(Clone, Copy)]
 pub enum Word {
     Named(Profile),
     Unknown,
 }
 
 // What a word says to `why`.
-#[derive(Drop)]
+#[derive(Clone, Copy)]
 pub enum Said {
     Full,
     Other(Word),
 }
 
 // What `why` is asked for: whether all columns are, and by which profile.
-#[derive(Drop)]
+#[derive(Clone, Copy)]
 pub enum Request {
     Asks(bool, Profile),
     Unclear,

@@ -2,6 +2,8 @@
 // bytes are breaks.
 //
 // `list_trace` of `listing` is called twice, as the cost lister calls it.
+#![tactic(auto)]
+
 use libc::STDOUT_FILENO;
 use listing::LISTING_ROOM;
 use profile::Profile;

@@ -3,6 +3,8 @@
 // `lines` puts single lines (`text`); `table` puts the whole text of a trace that was run, and reads its records again
 // for their opcodes. Here a trace is run (`trace`), its costs into bytes, and `table` is handed both. `replaying` calls
 // `list_into`, the cost lister `list_trace`; `replaying` and `showing` put a refusal by `put_refusal`.
+#![tactic(auto)]
+
 mod lines;
 mod table;
 
@@ -24,7 +26,7 @@ pub const MOST_LISTED_BYTES: usize = 65536;
 pub const LISTING_ROOM: usize = 65600;
 
 // What listing a trace gives.
-#[derive(Drop)]
+#[derive(Clone, Copy)]
 pub struct Listed {
     pub verdict: Verdict,
     // How many bytes of text there are.

@@ -2,6 +2,8 @@
 //
 // Here numbers are read; `storing` puts them into lent bytes, and `signed` reads 32 bits as a signed number, which a
 // raw count is. Nothing is tested here: each caller knows that the bytes are there.
+#![tactic(auto)]
+
 mod signed;
 mod storing;
 

@@ -1,1 +1,2 @@
 // What Motorola's manual says of some instructions: definitions and laws, and no code.
+#![tactic(auto)]

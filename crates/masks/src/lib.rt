@@ -3,6 +3,8 @@
 // `registers` has the pair of masks, what reaching an operand gives, and the groups that are all operands; `groups` has
 // group 4. Here are the groups that are left, and `reg_masks_060`, which matches on the top four bits. `profile` calls
 // the groups from a match of its own.
+#![tactic(auto)]
+
 mod groups;
 mod registers;
 

@@ -6,7 +6,7 @@ ghost use Rattle.masks.specs.Registers.{register, mask_of_regs};
 ghost use Rattle.masks.specs.Operands.{undecoded, operand_sets, register_operand, move_sets, quick_sets, mask_pair};
 
 // The Rust's pair (use, def): D0 to D7 in bits 0 to 7, A0 to A7 in bits 8 to 15.
-#[derive(Drop)]
+#[derive(Clone, Copy)]
 pub struct RegMasks060 {
     pub uses: u16,
     pub defs: u16,

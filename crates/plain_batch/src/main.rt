@@ -3,6 +3,8 @@
 // last retirement the clocks and the number of the cache's answer, as the last run stored them.
 //
 // `record` and `records` make the retirements; `run` calls `batch`, which hands each to the step by value (`step`).
+#![tactic(auto)]
+
 use libc::STDOUT_FILENO;
 use profile::Profile;
 use refusals::Ran;

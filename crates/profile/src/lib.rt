@@ -3,6 +3,8 @@
 // `crate_060` calls the groups of the classifier and of `masks` from one match, and equals the two functions that
 // `step` calls apart; `mending` has the rows of document 02's mended profile. `in_place` calls `instruction_060`, since
 // it is faster.
+#![tactic(auto)]
+
 mod mending;
 
 ghost use Rattle.std.specs.Prelude.{◌≡◌};
@@ -13,7 +15,7 @@ use masks::RegMasks060;
 use window::Instruction;
 
 // Chosen at start: document 000's, or document 02's.
-#[derive(Drop)]
+#[derive(Clone, Copy)]
 pub enum Profile {
     Crate,
     Mended,

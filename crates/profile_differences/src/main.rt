@@ -2,6 +2,8 @@
 // then the mended profile's, a line each in rising order, in upper-case hexadecimal; and how many there are.
 //
 // `profile` is asked twice of each opcode; `differs` compares, `line` spells with `text`.
+#![tactic(auto)]
+
 ghost use Rattle.std.specs.Prelude.{◌≡◌};
 ghost use Rattle.profile_differences.specs.Difference.{differ_of, difference_line, lines_of};
 
@@ -40,7 +42,7 @@ fn line(op: u16, own: Instruction, mended: Instruction) -> [u8; 35]
 }
 
 // What came of one opcode.
-#[derive(Drop)]
+#[derive(Clone, Copy)]
 enum Told {
     Same,
     Different,

@@ -8,7 +8,7 @@ use native.Mathlib.Omega.{arith}
 use lib.Dec.{eqb}
 use lib.Bits.{bit_and, bit_or, and_step}
 use lib.IntN.{pos}
-use borrow.Author.Tests.{eqb-true, not_true, not_false}
+use borrow.Author.Tests.{eqb-true, not-true, not-false}
 use Rattle.bits.specs.Pattern.{matches}
 use Rattle.bits.specs.Words.{bit, meets}
 use Rattle.bits.proofs.Bools.{and_left, and_right}
@@ -78,7 +78,7 @@ module _ (s : State crate_cache) (h f : Retirement) (x : OverPairs Mended s h f)
   free =
       let m = bit_and (bit_or i.uses i.defs) w.defs in
       ap (bit_and (bit_or i.uses i.defs)) (sym head_defs)
-      ∙ eqb-true m 0 (not_false (eqb m 0) (not_true (meets (bit_or i.uses i.defs) w.defs) (passes_each i f.controls w passed RegistersFree)))
+      ∙ eqb-true m 0 (not-false (eqb m 0) (not-true (meets (bit_or i.uses i.defs) w.defs) (passes_each i f.controls w passed RegistersFree)))
 
   none_taken : ⊥
   none_taken =

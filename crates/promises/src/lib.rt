@@ -1,1 +1,2 @@
 // What is promised of the definitions: statements in specs/, their proofs in proofs/. No code.
+#![tactic(auto)]

@@ -12,7 +12,7 @@ use state::Retirement;
 use window::Window;
 
 // What a retirement comes to.
-#[derive(Drop)]
+#[derive(Clone, Copy)]
 pub struct Explained {
     pub cost: Clocks,
     // What the cache predicted.

@@ -3,6 +3,8 @@
 //
 // `reason` has the reasons and the reason of one retirement, `explain` a retirement in place with its reason, `running`
 // one record of a run. The run here is the trace run (`trace`) with a third lent run.
+#![tactic(auto)]
+
 mod explain;
 mod reason;
 mod running;
@@ -23,7 +25,7 @@ use refusals::{Ran, Verdict};
 use state::Oep060Timing;
 
 // What the turns of all records come to.
-#[derive(Drop)]
+#[derive(Clone, Copy)]
 struct Sums {
     count: usize,
     total: u64,

@@ -10,7 +10,7 @@ use cost::Answer;
 use window::{Controls, Dispatch, Instruction, Rule, Window};
 
 // Why a retirement costs what it costs; first what any but branches and flow can have, then flow, then branches.
-#[derive(Drop)]
+#[derive(Clone, Copy)]
 pub enum Reason {
     Paired,
     WindowShut,

@@ -15,7 +15,7 @@ use records::Read;
 use state::Event;
 
 // The turn of one record, as the run's own, and the reason, as a number.
-#[derive(Drop)]
+#[derive(Clone, Copy)]
 pub struct Turn {
     pub next: usize,
     pub count: usize,

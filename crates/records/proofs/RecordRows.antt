@@ -7,7 +7,7 @@ use mathlib.Core.List.{List}
 use native.Mathlib.Omega.{arith}
 use lib.Dec.{eqb, ltb}
 use lib.ListN.{length}
-use borrow.Author.Tests.{lt-ltb, ltb-true, ltb-false, eqb-true, eqb-false, not_true, not_false}
+use borrow.Author.Tests.{lt-ltb, ltb-true, ltb-false, eqb-true, eqb-false, not-true, not-false}
 use Rattle.state.specs.declared.Event.{Event}
 use Rattle.refusals.specs.declared.Refusal.{Refusal}
 use Rattle.refusals.specs.declared.Refusal.TheVariants.{Remainder, WrongKind, WrongLength, Cut, Flag}
@@ -66,9 +66,9 @@ module _ (trace : List ℕ) (at : ℕ) where
   record_explained kind h =
       let Said : Verdict → Type 0 = λ v. Explained (taken_by v (event_at trace at kind) (next_place at kind)) in
       by_test Said (not (eqb (length_at trace at) (payload_length kind))) _ _
-      (λ t. (row4 kind (eqb-false _ _ (not_true _ t)) h, refl))
+      (λ t. (row4 kind (eqb-false _ _ (not-true _ t)) h, refl))
       (λ t.
-      let e : length_at trace at ≡ payload_length kind = eqb-true _ _ (not_false _ t) in
+      let e : length_at trace at ≡ payload_length kind = eqb-true _ _ (not-false _ t) in
       by_test Said (ltb (length trace) (next_place at kind)) _ _
       (λ c. let l : length trace < next_place at kind = ltb-true _ _ c in (row5 kind (omega arith) h e, refl))
       (λ c.

@@ -7,7 +7,7 @@ use mathlib.Core.List.{List}
 use native.Mathlib.Omega.{arith}
 use lib.Dec.{eqb, ltb}
 use lib.ListN.{length}
-use borrow.Author.Tests.{le-ltb, ltb-false, eq-eqb, eqb-true, eqb-false, not_true}
+use borrow.Author.Tests.{le-ltb, ltb-false, eq-eqb, eqb-true, eqb-false, not-true}
 use Rattle.bits.proofs.Bools.{and_left, and_right}
 use Rattle.little_endian.specs.Numbers.{number_at, Below}
 use Rattle.little_endian.proofs.Numbers.{number_small, number_halves}
@@ -32,7 +32,7 @@ module _ (trace : List ℕ) (at : ℕ) where
       let second = eqb (length_at trace at) 16 in
       let third = eqb (kind_at trace at) 1 in
       let two = and_left (first && second) third h in
-      let cut = ltb-false (length trace) (at + 4 + 16) (not_true (ltb (length trace) (at + 4 + 16)) (and_left first second two)) in
+      let cut = ltb-false (length trace) (at + 4 + 16) (not-true (ltb (length trace) (at + 4 + 16)) (and_left first second two)) in
       record {
         there = omega (arith, cut);
         long = eqb-true (length_at trace at) 16 (and_right first second two);
@@ -70,7 +70,7 @@ module _ (trace : List ℕ) (at : ℕ) where
   pub sound_got : sound_at trace at ≡ true → read_at trace at ≡ Got (Retired (retirement_at trace at)) (at + 20)
   sound_got h =
       let low = not (high_flag trace at Retirement) in
-      low_got (wholly (and_left (whole_at trace at) low h)) (not_true (high_flag trace at Retirement) (and_right (whole_at trace at) low h))
+      low_got (wholly (and_left (whole_at trace at) low h)) (not-true (high_flag trace at Retirement) (and_right (whole_at trace at) low h))
 
   -- and where no refusal is read there
   pub whole_got : whole_at trace at ≡ true → Unrefused trace at → read_at trace at ≡ Got (Retired (retirement_at trace at)) (at + 20)

@@ -2,7 +2,7 @@
 ghost use Rattle.std.specs.Prelude.{◌≡◌};
 ghost use Rattle.records.specs.Kinds.{kind_of, payload_length};
 
-#[derive(Drop)]
+#[derive(Clone, Copy)]
 pub enum Kind {
     Retirement,
     Break,
@@ -11,7 +11,7 @@ pub enum Kind {
 }
 
 // The kind that a number names, if there is one.
-#[derive(Drop)]
+#[derive(Clone, Copy)]
 pub enum KindRead {
     Known(Kind),
     Unknown,

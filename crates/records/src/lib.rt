@@ -4,6 +4,8 @@
 // stands at a place, and tells a whole retirement at a look. Here all records of a trace are checked before any is run,
 // since a refused run writes nothing.
 // `showing`, which writes no costs, calls `check_all`, which asks for no room.
+#![tactic(auto)]
+
 mod faults;
 mod kinds;
 mod layout;
@@ -25,7 +27,7 @@ use state::Event;
 const MOST_TRACE_BYTES: usize = 16777216;
 
 // What a check of all records finds: the number of retirements, or the first refusal.
-#[derive(Drop)]
+#[derive(Clone, Copy)]
 pub enum Checked {
     Sound(usize),
     Unsound(Refusal),

@@ -13,7 +13,7 @@ use state::Event;
 const WHOLE_HEAD: u32 = 65552;
 
 // What stands at a place of a trace: an event and the place after its record, a refusal, or the end.
-#[derive(Drop)]
+#[derive(Clone, Copy)]
 pub enum Read {
     Got(Event, usize),
     Bad(Refusal),

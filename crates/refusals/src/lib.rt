@@ -2,6 +2,8 @@
 //
 // The table's two columns are here, and `outcome` has what a run of a trace or a batch gives, refused or not. When a
 // refusal is given is said where it is tested: in `records`, `batch`, `image`, and in `listing` for its own limit.
+#![tactic(auto)]
+
 mod outcome;
 
 ghost use Rattle.std.specs.Prelude.{◌≡◌};
@@ -9,7 +11,7 @@ ghost use Rattle.refusals.specs.Refusals.{number_of, place_of};
 
 pub use outcome::{Ran, refused};
 
-#[derive(Drop)]
+#[derive(Clone, Copy)]
 pub enum Refusal {
     // The trace or the batch is over its limit.
     Oversized,
@@ -34,7 +36,7 @@ pub enum Refusal {
 }
 
 // What was handed in is taken, or it is refused.
-#[derive(Drop)]
+#[derive(Clone, Copy)]
 pub enum Verdict {
     Accepted,
     Refused(Refusal),

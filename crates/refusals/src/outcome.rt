@@ -6,7 +6,7 @@ use crate::{Refusal, Verdict};
 use state::Oep060Timing;
 
 // What a run of a trace or a batch gives.
-#[derive(Drop)]
+#[derive(Clone, Copy)]
 pub struct Ran {
     pub verdict: Verdict,
     // The number of retirements.

@@ -3,6 +3,8 @@
 //
 // `input` reads both, `replaying` makes the text; input that cannot be read, and a word that names no profile, are said
 // on standard error.
+#![tactic(auto)]
+
 use input::{Input, Word};
 use libc::{STDERR_FILENO, STDOUT_FILENO};
 use profile::Profile;

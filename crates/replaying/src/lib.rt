@@ -3,6 +3,8 @@
 // The input is an image and then a trace: `replay_parts` reads the image (`image`), `replay_from` lists the trace from
 // its state (`listing`), and the next state follows: its head in a line (`head_line`), its image in the rows of
 // `hex_lines`. Only `replay_text` is called from outside, by the program `replay`.
+#![tactic(auto)]
+
 mod head_line;
 mod hex_lines;
 

@@ -1,6 +1,8 @@
 // Prints the page of the classifier's rules, for the proofreader.
 //
 // `rule_text` makes the page from the table.
+#![tactic(auto)]
+
 use libc::STDOUT_FILENO;
 use rule_text::PAGE_ROOM;
 

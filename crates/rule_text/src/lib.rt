@@ -2,6 +2,8 @@
 //
 // `names` has the words, `words` a class word as text, `lines` single lines; here they are put one behind the other.
 // Only `put_page` is called from outside.
+#![tactic(auto)]
+
 mod lines;
 mod names;
 mod words;

@@ -1,6 +1,8 @@
 // Shows a trace: a trace from standard input, a line for each of its records to standard output.
 //
 // `input` reads, `showing` makes the text, and what cannot be read is said on standard error.
+#![tactic(auto)]
+
 use input::Input;
 use libc::{STDERR_FILENO, STDOUT_FILENO};
 use showing::SHOWING_ROOM;

@@ -2,6 +2,8 @@
 //
 // `lines` puts single lines (`text`). Here all records of a trace are checked first (`records`), since a refusal is the
 // whole output; then the records are read again, a line for each. Only `show_trace` is called from outside.
+#![tactic(auto)]
+
 mod lines;
 
 ghost use Rattle.std.specs.Prelude.{◌≡◌, ◌++◌, ◌+◌, ◌≤◌, length};

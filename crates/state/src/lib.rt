@@ -3,6 +3,8 @@
 // A state is a cache and a window; here are its breaks and clears by value, and a retirement is done in `step`.
 // `answers` says whether a retirement asks the cache, and what it hears, for `step` and `in_place`; `flags` makes a
 // retirement of the numbers that a host passes, and numbers of it again.
+#![tactic(auto)]
+
 mod answers;
 mod flags;
 
@@ -17,14 +19,14 @@ pub use flags::{control_flags, controls_of, number, packed_below, retirement_of}
 use window::{Controls, Window};
 
 // A retired instruction as the host passes it.
-#[derive(Drop)]
+#[derive(Clone, Copy)]
 pub struct Retirement {
     pub op: u16,
     pub controls: Controls,
 }
 
 // What can happen to a state.
-#[derive(Drop)]
+#[derive(Clone, Copy)]
 pub enum Event {
     Retired(Retirement),
     Broken,
@@ -33,7 +35,7 @@ pub enum Event {
 }
 
 // The timing state that a host keeps.
-#[derive(Drop)]
+#[derive(Clone, Copy)]
 pub struct Oep060Timing {
     // branch_cache
     pub cache: BranchCache060,
@@ -42,7 +44,7 @@ pub struct Oep060Timing {
 }
 
 // The next state, what the retirement costs, and what the branch cache said of it.
-#[derive(Drop)]
+#[derive(Clone, Copy)]
 pub struct Stepped {
     pub timing: Oep060Timing,
     pub cost: Clocks,

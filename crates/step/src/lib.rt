@@ -1,6 +1,8 @@
 // Part 5 of document 01: one retirement by value, from state to state, as the Rust reads.
 //
 // `in_place` has the same step on lent numbers, for runs and hosts; both equal `stepped_of`.
+#![tactic(auto)]
+
 ghost use Rattle.std.specs.Prelude.{◌≡◌, true, false};
 ghost use Rattle.class_word.specs.Word.{has, BRANCH};
 ghost use Rattle.profile.specs.Profile.{profile_of};
@@ -19,7 +21,7 @@ use state::{Oep060Timing, Retirement, Stepped};
 use window::{Controls, Instruction, Window};
 
 // A state, and the profile that is chosen for it at start.
-#[derive(Drop)]
+#[derive(Clone, Copy)]
 pub struct Chosen {
     pub timing: Oep060Timing,
     pub profile: Profile,

@@ -2,6 +2,8 @@
 //
 // `hex` makes digits. Each function here puts some bytes at a place and answers the place behind them, so that a line
 // is a chain of calls; the caller knows the room. `listing`, `replaying` and `showing` call them.
+#![tactic(auto)]
+
 mod hex;
 
 ghost use Rattle.std.specs.Prelude.{◌≡◌, ◌+◌, ◌≤◌, length, nat_abs};

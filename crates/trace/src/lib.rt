@@ -3,6 +3,8 @@
 // All records are checked first (`records`), since a refused run writes no byte; then each is read again and its event
 // done in place (`running`), and its cost and its answer are put behind the others. Each opcode is looked up once a run
 // (`in_place::decoded_060`), in a table that the run makes anew: a host lends none that it could spoil.
+#![tactic(auto)]
+
 mod running;
 
 ghost use Rattle.std.specs.Prelude.{◌≡◌, ◌<◌, ◌≤◌, length, set};
@@ -18,7 +20,7 @@ use refusals::{Ran, Verdict};
 use state::Oep060Timing;
 
 // What the turns of all records come to.
-#[derive(Drop)]
+#[derive(Clone, Copy)]
 struct Sums {
     count: usize,
     total: u64,

@@ -14,7 +14,7 @@ use records::Read;
 
 // The turn of one record: the place after it, how many retirements it is, its clocks, and what the cache predicted, as
 // a number.
-#[derive(Drop)]
+#[derive(Clone, Copy)]
 pub struct Turn {
     pub next: usize,
     pub count: usize,

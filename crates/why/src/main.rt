@@ -4,6 +4,8 @@
 //
 // `input` reads both, `explaining` makes the text from a fresh state; input that cannot be read, and words that ask for
 // nothing, are said on standard error.
+#![tactic(auto)]
+
 use explaining::WHY_ROOM;
 use input::{Input, Request};
 use libc::{STDERR_FILENO, STDOUT_FILENO};

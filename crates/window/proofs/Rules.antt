@@ -5,7 +5,7 @@ use mathlib.Core.Bool.{Bool, true, false, not, cond, ◌&&◌, true≢false}
 use mathlib.Core.List.{List, [], ◌∷◌}
 use Prim.Native.Nat.{ℕ}
 use lib.Dec.{eqb}
-use borrow.Author.Tests.{eqb-true, not_true}
+use borrow.Author.Tests.{eqb-true, not-true}
 use Rattle.bits.proofs.Bools.{and_left, and_right}
 use Rattle.class_word.specs.Word.{has, class_of, VARIABLE, UNCLASSIFIED, EA_INDEXED}
 use Rattle.window.specs.declared.dispatch.Instruction.{Instruction}
@@ -88,9 +88,9 @@ simple_parts word e =
     let zx = and_left (z && x) u zxu in
     record {
       class0 = eqb-true _ _ (and_left z x zx);
-      unindexed = not_true (has word EA_INDEXED) (and_right z x zx);
-      classified = not_true (has word UNCLASSIFIED) (and_right (z && x) u zxu);
-      fixed = not_true (has word VARIABLE) (and_right (z && x && u) v e);
+      unindexed = not-true (has word EA_INDEXED) (and_right z x zx);
+      classified = not-true (has word UNCLASSIFIED) (and_right (z && x) u zxu);
+      fixed = not-true (has word VARIABLE) (and_right (z && x && u) v e);
     }
 
 module _ (i : Instruction) (k : Controls) (w : Window) (e : passes i k w ≡ true) where

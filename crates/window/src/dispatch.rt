@@ -11,7 +11,7 @@ use class_word::{
 };
 
 // What an instruction is to the pairing window.
-#[derive(Drop)]
+#[derive(Clone, Copy)]
 pub struct Instruction {
     pub word: Info060,
     // use_mask
@@ -21,7 +21,7 @@ pub struct Instruction {
 }
 
 // What the host passes with a retirement, besides the opcode.
-#[derive(Drop)]
+#[derive(Clone, Copy)]
 pub struct Controls {
     pub flowed: bool,
     pub cached: bool,
@@ -34,7 +34,7 @@ pub struct Controls {
 }
 
 // The rules of the dispatch test, in order.
-#[derive(Drop)]
+#[derive(Clone, Copy)]
 pub enum Rule {
     EssOn,
     BothCached,
@@ -45,7 +45,7 @@ pub enum Rule {
 }
 
 // What the dispatch test finds: the first rule that fails, or none.
-#[derive(Drop)]
+#[derive(Clone, Copy)]
 pub enum Dispatch {
     Passes,
     Fails(Rule),

@@ -3,6 +3,8 @@
 // Here is the window itself. `raw` has raw counts and makes clocks of them, `dispatch` what a retirement brings and the
 // dispatch test, and `lent` the break on a lent window, a thin function over the rule by value. `cost` calls the test
 // and the fallback.
+#![tactic(auto)]
+
 mod dispatch;
 mod lent;
 mod raw;
@@ -16,7 +18,7 @@ pub use raw::{RawCount, fallback_cycles};
 
 // The Rust's Option<PendingHead060>: `opened` says whether there is a head; the other fields are the head's. The Rust
 // has no `op` and `address`: document 02's R-6 keeps them, and no cost looks at them.
-#[derive(Drop)]
+#[derive(Clone, Copy)]
 pub struct Window {
     pub opened: bool,
     // def_mask

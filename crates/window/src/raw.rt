@@ -6,7 +6,7 @@ ghost use Rattle.window.specs.Raw.{fallback_of};
 use class_word::Clocks;
 
 // A raw 68000 count; only `fallback_cycles` makes clocks of it.
-#[derive(Drop)]
+#[derive(Clone, Copy)]
 pub struct RawCount(pub i32);
 
 // Truncated toward zero, at least 1.

@@ -2,6 +2,8 @@
 // 24.
 //
 // The fallback is that of `window`; RTS is one step by value (`step`) from a fresh state.
+#![tactic(auto)]
+
 use libc::STDOUT_FILENO;
 use profile::Profile;
 use state::{Oep060Timing, Retirement};
