@@ -7,7 +7,7 @@
 --                  "A state handed in shut with other window fields set is read, and handed back, as if they were zero"
 --   unnamed w  ==  the window w without its head's opcode and address: with zeros in their place
 --                  "They enter no cost; demand 2's next state is read without them"
-use Rattle.std.specs.Prelude.{true, false, cond}
+use Rattle.std.specs.Prelude.{false, cond}
 use Rattle.window.specs.declared.Window.{Window}
 
 abbrev pub shut : Window
