@@ -1,5 +1,4 @@
 -- `as_head`: the two flags are the definition's.
-use Rattle.std.proofs.Common.{rules}
 use Rattle.cost.proofs.as_head.Goals as goal
 
 pub returns : goal.returns

@@ -1,5 +1,5 @@
 -- `charge_neither`: a pair costs one less, and else the instruction may lead.
-use Rattle.std.proofs.Common.{sym, rules}
+use Rattle.std.proofs.Common.{sym}
 use Rattle.cost.proofs.charge_neither.Goals as goal
 
 pub returns-then-pairs : goal.returns-then-pairs

@@ -1,5 +1,4 @@
 -- `charge_other`: the two kinds in document 01's order, each with what its part promises.
-use Rattle.std.proofs.Common.{rules}
 use Rattle.cost.proofs.charge_other.Goals as goal
 
 pub returns-then-k : goal.returns-then-k

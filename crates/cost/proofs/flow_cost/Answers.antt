@@ -1,5 +1,5 @@
 -- `flow_cost`: the larger of the fallback and 5.
-use Rattle.std.proofs.Common.{ap, ◌∙◌, arith, rules}
+use Rattle.std.proofs.Common.{ap, ◌∙◌, arith}
 use Rattle.class_word.specs.Word.{clocks}
 use Rattle.class_word.specs.declared.Clocks.{Clocks}
 use Rattle.cost.proofs.flow_cost.Goals as goal

@@ -1,5 +1,4 @@
 -- `leads`: the number of the class is that of the word.
-use Rattle.std.proofs.Common.{rules}
 use Rattle.cost.proofs.leads.Goals as goal
 
 pub returns : goal.returns

@@ -1,5 +1,5 @@
 -- `less_one`: a count of 0 stays.
-use Rattle.std.proofs.Common.{ap, arith, rules}
+use Rattle.std.proofs.Common.{ap, arith}
 use Rattle.class_word.specs.Word.{clocks}
 use Rattle.cost.proofs.less_one.Goals as goal
 

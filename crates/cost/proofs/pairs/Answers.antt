@@ -1,5 +1,4 @@
 -- `pairs`: an open window, and then the dispatch test.
-use Rattle.std.proofs.Common.{rules}
 use Rattle.cost.specs.Cost.{pairs}
 use Rattle.cost.proofs.pairs.Goals as goal
 

@@ -1,5 +1,5 @@
 -- `plain`: either flag picks the fallback, or else the packed clocks.
-use Rattle.std.proofs.Common.{◌≡◌, ℕ, Bool, true, false, cond, ◌||◌, ℤ, sym, refl, ap, ◌∙◌, arith, rules}
+use Rattle.std.proofs.Common.{◌≡◌, ℕ, Bool, true, false, cond, ◌||◌, ℤ, sym, refl, ap, ◌∙◌, arith}
 use Rattle.bits.proofs.Words.{meets_either}
 use Rattle.class_word.specs.Word.{has, clocks_of, clocks, VARIABLE, UNCLASSIFIED}
 use Rattle.window.specs.Raw.{fallback_of}

@@ -1,5 +1,4 @@
 -- `branch_cost_060`: each arm of the answer, and then each test, picks the definition's number.
-use Rattle.std.proofs.Common.{rules}
 use Rattle.cost.proofs.branch.branch_cost_060.Goals as goal
 
 pub returns-then-taken : goal.returns-then-taken

@@ -1,5 +1,4 @@
 -- `charge_branch`: what the cost is asked of is the definition's.
-use Rattle.std.proofs.Common.{rules}
 use Rattle.cost.proofs.branch.charge_branch.Goals as goal
 
 pub returns : goal.returns

@@ -1,5 +1,5 @@
 -- `taken`: DBcc by where it went, any other branch by `flowed`.
-use Rattle.std.proofs.Common.{sym, rules}
+use Rattle.std.proofs.Common.{sym}
 use Rattle.cost.specs.Branch.{taken_of}
 use Rattle.cost.proofs.branch.taken.Goals as goal
 
