@@ -35,14 +35,17 @@ bounds-out-at t c = omega (arith, c.requires, one c.args.n c.if-n-lt10.true)
 pub returns-then-n-lt10 : goal.returns-then-n-lt10
 returns-then-n-lt10 t c =
     let a = c.args in
+    let h = one a.n c.if-n-lt10.true in
     rw (decimal_small a.n c.if-n-lt10.true)
-    (wrote_whole (wrote_one (wrote_none a.out.now a.at) (48 + a.n) (omega (arith, c.requires, one a.n c.if-n-lt10.true))))
+    (wrote_whole (wrote_one (wrote_none a.out.now a.at) (48 + a.n) (omega (arith, c.requires, h))))
 
 pub put_decimal-next-requires : goal.put_decimal-next-requires
-put_decimal-next-requires t c = (omega (arith, c.decreases), omega (arith, c.requires, more c.args.n c.if-n-lt10.false))
+put_decimal-next-requires t c =
+    (omega (arith, c.decreases), omega (arith, c.requires, more c.args.n c.if-n-lt10.false))
 
 pub bounds-out-next : goal.bounds-out-next
-bounds-out-next t c = room_behind c.args.out.now c.args.at c.args.n c.requires c.if-n-lt10.false c.put_decimal-next.ensures
+bounds-out-next t c =
+    room_behind c.args.out.now c.args.at c.args.n c.requires c.if-n-lt10.false c.put_decimal-next.ensures
 
 pub overflow_add-result-2 : goal.overflow_add-result-2
 overflow_add-result-2 t c =

@@ -6,7 +6,8 @@ use Rattle.text.proofs.Writing.{Wrote, wrote, wrote_more, wrote_whole}
 use Rattle.text.proofs.put_hex8.Goals as goal
 use Rattle.text.proofs.put_hex8.Goals.{After-put_hex4-low}
 
-high : (c : After-put_hex4-low) → Wrote c.args.out.now c.args.at (hex_of (c.args.long / 65536)) c.put_hex4-low.result c.put_hex4-low.new.out
+high : (c : After-put_hex4-low)
+    → Wrote c.args.out.now c.args.at (hex_of (c.args.long / 65536)) c.put_hex4-low.result c.put_hex4-low.new.out
 high c = wrote _ _ _ (omega (arith, c.requires)) c.put_hex4-low.ensures
 
 pub put_hex4-requires : goal.put_hex4-requires

@@ -41,18 +41,25 @@ module _ (lent : List ℕ) (at : ℕ) (z : ℤ) (h : at + length (signed_decimal
   both w = rw negative (wrote_whole (wrote_more sign (decimal_of size) (omega (arith, room)) w))
 
 pub bounds-out-at : goal.bounds-out-at
-bounds-out-at c = omega (arith, room c.args.out.now c.args.at c.args.n c.requires (search rules) _ c.magnitude-size.ensures c.if-n-lt0.true)
+bounds-out-at c =
+    let a = c.args in
+    omega (arith, room a.out.now a.at a.n c.requires (search rules) _ c.magnitude-size.ensures c.if-n-lt0.true)
 
 pub put_decimal-requires : goal.put_decimal-requires
 put_decimal-requires c =
-    simp length-set (room c.args.out.now c.args.at c.args.n c.requires (search rules) _ c.magnitude-size.ensures c.if-n-lt0.true)
+    let a = c.args in
+    simp length-set (room a.out.now a.at a.n c.requires (search rules) _ c.magnitude-size.ensures c.if-n-lt0.true)
 
 pub returns-then-n-lt0 : goal.returns-then-n-lt0
 returns-then-n-lt0 c =
-    both c.args.out.now c.args.at c.args.n c.requires (search rules) _ c.magnitude-size.ensures c.if-n-lt0.true c.put_decimal.ensures
+    let a = c.args in
+    let f : SFits w32 a.n = search rules in
+    both a.out.now a.at a.n c.requires f _ c.magnitude-size.ensures c.if-n-lt0.true c.put_decimal.ensures
 
 pub put_decimal-requires-2 : goal.put_decimal-requires-2
-put_decimal-requires-2 c = omega (arith, c.requires, ap length (whole c.args.n (search rules) _ c.magnitude-size.ensures c.if-n-lt0.false))
+put_decimal-requires-2 c =
+    let same = whole c.args.n (search rules) _ c.magnitude-size.ensures c.if-n-lt0.false in
+    omega (arith, c.requires, ap length same)
 
 pub returns : goal.returns
 returns c = rw (whole c.args.n (search rules) _ c.magnitude-size.ensures c.if-n-lt0.false) c.put_decimal-2.ensures

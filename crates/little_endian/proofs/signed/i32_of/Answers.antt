@@ -19,7 +19,8 @@ below : (k : ℕ) → k < 2 ^ 31 → negsuc 0 -ℤ to_z w32 k ≡ negsuc k
 below k h = ap (λ (z : ℤ). negsuc 0 -ℤ z) (to_z_pos w32 h) ∙ minus k
 
 pub overflow_sub-result-else-x-lt2147483648 : goal.overflow_sub-result-else-x-lt2147483648
-overflow_sub-result-else-x-lt2147483648 c = subst (SFits w32) (sym (below (4294967295 - c.args.x) (omega arith))) (record { sfits = omega arith })
+overflow_sub-result-else-x-lt2147483648 c =
+    subst (SFits w32) (sym (below (4294967295 - c.args.x) (omega arith))) (record { sfits = omega arith })
 
 pub returns-then-x-lt2147483648 : goal.returns-then-x-lt2147483648
 unfolding signed_of
