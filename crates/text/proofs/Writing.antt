@@ -2,12 +2,12 @@
 -- Assumes nothing.
 use Prim.Native.Nat.{ℕ, ◌+◌, ◌≤◌, ◌<◌}
 use mathlib.Core.Path.{◌≡◌, refl, sym, ap, ◌∙◌}
-use mathlib.Core.List.{List, [], ◌∷◌, ◌++◌, append-nil}
+use mathlib.Core.List.{List, [], ◌∷◌, ◌++◌}
 use native.Mathlib.Nat.{add-zero}
 use native.Mathlib.Omega.{arith}
 use native.Mathlib.Numerals.{add-one}
-use lib.ListN.{length, take, drop, get_or, set, length-set, length-append, take-append-drop}
-use lib.Seq.{sets-eq, length-take-le, take-suc}
+use lib.ListN.{length, take, drop, get_or, set, length-set, length-append}
+use lib.Seq.{length-take-le, take-suc}
 use Rattle.little_endian.specs.Numbers.{put_at}
 use Rattle.little_endian.proofs.Numbers.{put_length, put_joins}
 use Rattle.text.specs.Written.{Written, written, written_of}
