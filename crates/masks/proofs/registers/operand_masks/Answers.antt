@@ -1,7 +1,6 @@
 -- `registers::operand_masks`: `ea_masks` at the opcode's mode and reg.
 use mathlib.Core.Path.{ap₂, ◌∙◌}
 use Prim.Native.Nat.{ℕ}
-use borrow.Author.Rules.{rules}
 use Rattle.masks.specs.Operands.{operand_sets, mask_pair}
 use Rattle.masks.proofs.registers.operand_masks.Goals as goal
 
