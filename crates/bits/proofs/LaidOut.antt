@@ -35,6 +35,17 @@ array (Syntax.repeat x n) = []
 array (Syntax.repeat_p _ _) = []
 array (Syntax.select _ _ _) = []
 
+-- the numbers of a constant that lies in memory of its own
+abbrev lent : Syntax.Const → List ℕ
+lent (Syntax.c_int width n) = []
+lent (Syntax.c_bool b) = []
+lent (Syntax.c_float format n) = []
+lent Syntax.c_unit = []
+lent (Syntax.c_ints width ns) = ns
+lent (Syntax.c_repeat value n) = []
+lent (Syntax.c_parts parts) = []
+lent (Syntax.c_here n) = []
+
 -- what a statement lays out
 abbrev pub laid_out : Syntax.Body → List ℕ
 laid_out Syntax.skip = []
@@ -49,4 +60,4 @@ laid_out Syntax.return = []
 laid_out (Syntax.call name arguments to) = []
 laid_out Syntax.unreachable = []
 laid_out (Syntax.call_v _ _ _ _) = []
-laid_out (Syntax.lend_static _ _ _) = []
+laid_out (Syntax.lend_static to type value) = lent value

@@ -4,7 +4,7 @@
 --   matches p op   ==  the opcode has the pattern's bits wherever the pattern has 0 or 1
 --   mask_of p       ==  the number with bit 1 where the pattern has 0 or 1: the Rust's M in `op & M == V`
 --   value_of p      ==  the number with bit 1 where the pattern has 1: the Rust's V
-use Rattle.std.specs.Prelude.{ℕ, ◌+◌, ◌*◌, ◌/◌, ◌%◌, Bool, true, false, ◌&&◌, eqb}
+use Rattle.std.specs.Prelude.{ℕ, ◌+◌, ◌*◌, ◌/◌, ◌%◌, Bool, true, ◌&&◌, eqb}
 
 infixl 90 ◌O
 infixl 90 ◌I

@@ -6,7 +6,7 @@
 --   first rows            ==  the answer of the first row whose test holds
 --   rows_after n rows     ==  the rows that are left when the first n are struck out
 --   every_row p rows      ==  p holds of each row's answer, whichever row it is
-use Rattle.std.specs.Prelude.{ℕ, zero, suc, Bool, true, false, cond, ◌&&◌}
+use Rattle.std.specs.Prelude.{ℕ, zero, suc, Bool, cond, ◌&&◌}
 
 infixr 20 ◌⇒◌⨾◌
 pub data Rows (A : Type 0) : Type 0 where

@@ -1,12 +1,12 @@
 -- Four rows that answer the same: their answer where one of the four patterns matches, and the later rows where none does.
 -- Assumes nothing.
-use mathlib.Core.Path.{◌≡◌, refl, sym, ap, ◌∙◌}
+use mathlib.Core.Path.{◌≡◌, refl}
 use mathlib.Core.Logic.{◌⊎◌, ⊎_elim, inl, inr}
 use mathlib.Core.Bool.{Bool, true, false, cond}
 use Prim.Native.Nat.{ℕ}
 use lib.Bits.{bit_and}
 use Rattle.bits.specs.Pattern.{Pattern, matches, mask_of, value_of}
-use Rattle.bits.specs.Rows.{Rows, otherwise, ◌⇒◌⨾◌, first}
+use Rattle.bits.specs.Rows.{Rows, ◌⇒◌⨾◌, first}
 use Rattle.bits.proofs.Patterns.{hit, miss}
 
 either : {A : Type 0} (t : Bool) {x y : A} → y ≡ x → cond t x y ≡ x

@@ -2,7 +2,6 @@
 use mathlib.Core.Path.{ap}
 use Prim.Native.Nat.{ℕ, ◌+◌}
 use native.Mathlib.Omega.{arith}
-use borrow.Author.Rules.{rules}
 use Rattle.bits.specs.Fields.{mode_of, reg_of, dst_mode_of, dst_reg_of}
 use Rattle.masks.specs.Operands.{operand_sets}
 use Rattle.masks.specs.Masks.{dyadic_sets}

@@ -1,6 +1,5 @@
 -- `masks::moveq_masks`: a shifted 1 is the register of bits 9 to 11.
 use native.Mathlib.Omega.{arith}
-use borrow.Author.Rules.{rules}
 use Rattle.bits.specs.Fields.{dst_reg_of}
 use Rattle.masks.specs.Masks.{moveq_sets}
 use Rattle.masks.proofs.RegistersLaws.{mask_none, mask_only}

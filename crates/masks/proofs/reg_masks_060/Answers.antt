@@ -1,13 +1,12 @@
 -- `reg_masks_060`: each arm is the definition's row of its groups.
-use mathlib.Core.Logic.{⊎_elim, inl, inr}
+use mathlib.Core.Logic.{inl, inr}
 use Prim.Native.Nat.{◌<◌}
 use native.Mathlib.Omega.{arith}
-use borrow.Author.Rules.{rules}
 use Rattle.bits.specs.Fields.{group_of}
 use Rattle.masks.specs.Masks.{sets_of}
 use Rattle.masks.proofs.MasksGroups.{group_is, group_move, group_dyadic}
 use Rattle.masks.proofs.reg_masks_060.Goals as goal
-use Rattle.masks.proofs.reg_masks_060.Goals.{else-in-8-1, then-in-8-1, then-in_default}
+use Rattle.masks.proofs.reg_masks_060.Goals.{then-this-lt10, else-this-lt10+else-this-lt11+then-this-lt14, in_default-via-then-this-lt1, in_default-via-else-this-lt1+else-this-lt4+then-this-lt7, in_default-via-else-this-lt1+else-this-lt4+else-this-lt7+else-this-lt10+then-this-lt11, in_default-via-else-this-lt1+else-this-lt4+else-this-lt7+else-this-lt10+else-this-lt11+else-this-lt14}
 
 pub returns-in-7 : goal.returns-in-7
 unfolding sets_of
@@ -27,13 +26,16 @@ returns-in-4 c = group_is c.args.op (group_of c.args.op) 4 c.in-4.is c.group4_ma
 
 pub returns-in-1-to-3 : goal.returns-in-1-to-3
 unfolding sets_of
-returns-in-1-to-3 c = group_move c.args.op (group_of c.args.op) c.if-this-lt1.false (omega (arith, c.if-this-lt4.true)) c.move_masks.ensures
+returns-in-1-to-3 c = group_move c.args.op (group_of c.args.op) (omega arith) (omega arith) c.move_masks.ensures
 
 pub returns-in-8 : goal.returns-in-8
 unfolding sets_of
 returns-in-8 c =
     group_dyadic c.args.op (group_of c.args.op)
-    ((elim c.in-8-1.branch [ then-in-8-1 k ↦ inl (omega (arith, c.if-this-lt7.false, c.in_default-1.rest.0.0.0.1), omega (arith, k.taken)) | else-in-8-1 k ↦ inr (k.JOINED-is.left, omega (arith, k.2.taken)) ]))
+    (elim c.in-8-1.branch [
+      | then-this-lt10 w ↦ inl (omega arith, omega arith)
+      | else-this-lt10+else-this-lt11+then-this-lt14 w ↦ inr (omega arith, omega arith)
+    ])
     c.dyadic_masks.ensures
 
 pub returns-in_default : goal.returns-in_default
@@ -41,8 +43,9 @@ unfolding sets_of
 returns-in_default c =
     let g = group_of c.args.op in
     let top : g < 16 = omega arith in
-    ⊎_elim (λ k. group_is c.args.op g 0 (omega (arith, k.taken)) c.full.ensures)
-    (⊎_elim (λ k. group_is c.args.op g 6 (omega (arith, k.1.left, k.2.taken, c.in_default-1.rest.1, c.in_default-1.rest.0.0.1)) c.full.ensures)
-    (⊎_elim (λ k. group_is c.args.op g 10 (omega (arith, k.3.left, k.4.taken)) c.full.ensures)
-    (λ k. group_is c.args.op g 15 (omega (arith, k.5.left, c.in_default-1.rest.0.1)) c.full.ensures)))
-    c.in_default.branch
+    elim c.in_default.branch [
+      | in_default-via-then-this-lt1 w ↦ group_is c.args.op g 0 (omega arith) c.full.ensures
+      | in_default-via-else-this-lt1+else-this-lt4+then-this-lt7 w ↦ group_is c.args.op g 6 (omega arith) c.full.ensures
+      | in_default-via-else-this-lt1+else-this-lt4+else-this-lt7+else-this-lt10+then-this-lt11 w ↦ group_is c.args.op g 10 (omega arith) c.full.ensures
+      | in_default-via-else-this-lt1+else-this-lt4+else-this-lt7+else-this-lt10+else-this-lt11+else-this-lt14 w ↦ group_is c.args.op g 15 (omega arith) c.full.ensures
+    ]

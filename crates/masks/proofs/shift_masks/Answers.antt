@@ -1,11 +1,9 @@
 -- `masks::shift_masks`: the register shifted and, where bit 5 is set, the one that holds the count; memory is left undecoded.
 use mathlib.Core.Path.{◌≡◌, refl, sym, ap, ◌∙◌}
 use mathlib.Core.Bool.{not}
-use mathlib.Core.Logic.{⊎_elim}
 use Prim.Native.Nat.{ℕ}
 use native.Mathlib.Omega.{arith}
 use lib.Bits.{bit_and}
-use borrow.Author.Rules.{rules}
 use borrow.Author.Tests.{eq-eqb, ne_eqb}
 use Rattle.bits.specs.Fields.{reg_of, dst_reg_of}
 use Rattle.bits.specs.Words.{bit}
@@ -31,7 +29,7 @@ returns-after-op-ne0 c =
     let n = D (dst_reg_of c.args.op) in
     let by = sym (meets_bit c.args.op 5) in
     let count : c.if-op-ne0.count_use ≡ mask_of_regs (count_uses c.args.op) =
-    (elim c.if-op-ne0.branch [ then-op-ne0 k ↦ k.count_use-is ∙ mask_where (bit 5 c.args.op) n (by ∙ ap not (ne_eqb (bit_and c.args.op 32) 0 k.if-op-ne0.true)) (mask_only (dst_reg_of c.args.op) k.count_use-is.ensures (omega arith)) | else-op-ne0 k ↦ k.JOINED-is ∙ mask_unless (bit 5 c.args.op) n (by ∙ ap not (eq-eqb (bit_and c.args.op 32) 0 k.if-op-ne0.false)) ]) in
+    (elim c.if-op-ne0.branch [ then-op-ne0 k ↦ k.count_use-is ∙ mask_where (bit 5 c.args.op) n (by ∙ ap not (ne_eqb (bit_and c.args.op 32) 0 k.if-op-ne0.true)) (mask_only (dst_reg_of c.args.op) k.dst_reg_of.ensures (omega arith)) | else-op-ne0 k ↦ k.count_use-is ∙ mask_unless (bit 5 c.args.op) n (by ∙ ap not (eq-eqb (bit_and c.args.op 32) 0 k.if-op-ne0.false)) ]) in
     pair (uses union (D (reg_of c.args.op)) (count_uses c.args.op) defines D (reg_of c.args.op)) (mask_or (D (reg_of c.args.op)) (count_uses c.args.op) dn count) dn
     ∙ ap mask_pair (last (skip (rows c.args.op) (miss size11 c.args.op c.if-op-ne192.true)) refl)
 

@@ -1,12 +1,10 @@
 -- `groups::group4_masks`: LEA's row, the row of the forms with one operand, and the rest.
 use mathlib.Core.Path.{◌≡◌, refl, sym, ap, ◌∙◌}
 use mathlib.Core.Bool.{◌||◌}
-use mathlib.Core.Logic.{⊎_elim}
 use Prim.Native.Nat.{ℕ, ◌+◌, ◌/◌, ◌%◌, ◌<◌, ◌≤◌}
 use native.Mathlib.Omega.{arith}
 use lib.Bits.{bit_and, and_high}
 use lib.Dec.{eqb, ltb}
-use borrow.Author.Rules.{rules}
 use borrow.Author.Tests.{eq-eqb, ne_eqb, lt-ltb, le-ltb}
 use Rattle.bits.specs.Fields.{mode_of, reg_of, dst_reg_of}
 use Rattle.bits.specs.Pattern.{matches}
@@ -32,9 +30,9 @@ below op h = rw (lt-ltb (op / 256 % 16) 7 (omega (arith, and_high op 4 8))) (lt-
 above : (op : ℕ) → 1792 ≤ bit_and op 3840 → eqb (bit_and op 3840) 2560 ≡ (ltb (op / 256 % 16) 7 || matches tst op)
 above op h = rw (le-ltb (op / 256 % 16) 7 (omega (arith, and_high op 4 8))) (masked tst op)
 
-one-operand : (c : Joined-op-lt1792) → c.if-op-lt1792.if3 ≡ (ltb (c.args.op / 256 % 16) 7 || matches tst c.args.op)
+one-operand : (c : Joined-op-lt1792) → c.if-op-lt1792.value ≡ (ltb (c.args.op / 256 % 16) 7 || matches tst c.args.op)
 one-operand c =
-    (elim c.if-op-lt1792.branch [ then-op-lt1792 k ↦ k.JOINED-is ∙ below c.args.op k.if-op-lt1792.true | else-op-lt1792 k ↦ k.JOINED-is ∙ above c.args.op k.if-op-lt1792.false ])
+    (elim c.if-op-lt1792.branch [ then-op-lt1792 k ↦ k.value-is ∙ below c.args.op k.if-op-lt1792.true | else-op-lt1792 k ↦ k.value-is ∙ above c.args.op k.if-op-lt1792.false ])
 
 pub returns-then-op-eq448 : goal.returns-then-op-eq448
 returns-then-op-eq448 c =

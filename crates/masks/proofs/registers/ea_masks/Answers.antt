@@ -1,5 +1,4 @@
 -- `registers::ea_masks`: the selections are the row that the definition gives at each mode.
-use borrow.Author.Rules.{rules}
 use Rattle.masks.proofs.Modes.{mode_masks}
 use Rattle.masks.proofs.registers.ea_masks.Goals as goal
 

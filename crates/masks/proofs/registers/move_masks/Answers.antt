@@ -1,7 +1,6 @@
 -- `registers::move_masks`: the ors are the unions of what source and destination use and define.
 use mathlib.Core.Path.{ap₂, ◌∙◌}
 use Prim.Native.Nat.{ℕ}
-use borrow.Author.Rules.{rules}
 use Rattle.bits.specs.Fields.{mode_of, reg_of, dst_mode_of, dst_reg_of}
 use Rattle.masks.specs.Registers.{union, mask_of_regs}
 use Rattle.masks.specs.Operands.{operand_sets, register_operand, move_sets, mask_pair}

@@ -1,5 +1,4 @@
 -- `registers::operand_def`: the selection is the register that the definition gives at each mode.
-use borrow.Author.Rules.{rules}
 use Rattle.masks.proofs.Modes.{mode_register}
 use Rattle.masks.proofs.registers.operand_def.Goals as goal
 

@@ -1,7 +1,6 @@
 -- `registers::quick_masks`: the operand, and the register that it itself is.
 use mathlib.Core.Path.{ap₂, ◌∙◌}
 use Prim.Native.Nat.{ℕ}
-use borrow.Author.Rules.{rules}
 use Rattle.bits.specs.Fields.{mode_of, reg_of}
 use Rattle.masks.specs.Registers.{mask_of_regs}
 use Rattle.masks.specs.Operands.{operand_sets, register_operand}
