@@ -1,4 +1,5 @@
--- `check_all`: what is counted, with what is left of the trace, is what the whole trace counts. The measure is what is left.
+-- `check_all`: what is counted, with what is left of the trace, is what the whole trace counts. The measure is what is
+-- left.
 use Prim.Native.Nat.{ℕ, ◌+◌}
 use mathlib.Core.Path.{◌≡◌, sym, ◌∙◌}
 use mathlib.Core.Bool.{Bool, true}
@@ -29,7 +30,8 @@ pub overflow_add-at : goal.overflow_add-at
 overflow_add-at c = let w = got_within _ _ _ _ (got _ _ c.sound_at.ensures c.if-sound_at.true) in omega arith
 
 pub loop-count-smaller-then-sound_at : goal.loop-count-smaller-then-sound_at
-loop-count-smaller-then-sound_at c = let w = got_within _ _ _ _ (got _ _ c.sound_at.ensures c.if-sound_at.true) in omega arith
+loop-count-smaller-then-sound_at c =
+    let w = got_within _ _ _ _ (got _ _ c.sound_at.ensures c.if-sound_at.true) in omega arith
 
 pub loop-count-preserved-then-sound_at : goal.loop-count-preserved-then-sound_at
 loop-count-preserved-then-sound_at c =
@@ -56,5 +58,8 @@ loop-count-smaller c =
 pub loop-count-preserved : goal.loop-count-preserved
 loop-count-preserved c =
     let q = sym c.read_record-found.ensures ∙ c.in-Got.is in
-    let w = got_within _ _ _ _ q in
-    (omega arith, omega (arith, count_one c.in-Got.e, c.counted-count.ensures), rw c.counted-count.ensures (count_got _ _ _ c.loop-count.invariant.2 _ _ q))
+    let w = got_within _ _ _ _ q in (
+      omega arith,
+      omega (arith, count_one c.in-Got.e, c.counted-count.ensures),
+      rw c.counted-count.ensures (count_got _ _ _ c.loop-count.invariant.2 _ _ q),
+    )

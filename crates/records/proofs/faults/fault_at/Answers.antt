@@ -38,7 +38,8 @@ module _ (s : List ℕ) (at : ℕ) where
   flagless ClearUser e = refl
 
 -- the tests of the code, which compares the length that it read with the kind's
-module _ (s : List ℕ) (at : ℕ) (kind : Kind) {len want : ℕ} (said : len ≡ length_at s at) (asked : want ≡ payload_length kind) where
+module _ (s : List ℕ) (at : ℕ) (kind : Kind) {len want : ℕ}
+    (said : len ≡ length_at s at) (asked : want ≡ payload_length kind) where
   wrong : (len ≡ want → ⊥) → Refused (WrongLength at) ≡ fault_at s at kind
   wrong n = sym (fault_length s at kind (λ e. n (said ∙ e ∙ sym asked)))
 
@@ -67,7 +68,9 @@ pub returns-then-len-want : goal.returns-then-len-want
 returns-then-len-want c = wrong _ _ _ c.u16_at-len.ensures c.payload_length-want.ensures c.if-len-want.true
 
 pub returns-then-trace-next : goal.returns-then-trace-next
-returns-then-trace-next c = cut _ _ _ c.u16_at-len.ensures c.payload_length-want.ensures c.if-len-want.false c.if-trace-next.true
+returns-then-trace-next c =
+    cut _ _ _ c.u16_at-len.ensures c.payload_length-want.ensures c.if-len-want.false
+    c.if-trace-next.true
 
 pub u16_at-requires : goal.u16_at-requires
 u16_at-requires c =
@@ -75,10 +78,16 @@ u16_at-requires c =
     omega (arith, c.if-trace-next.false, want)
 
 pub returns-then-u16_at-gt-ALL_FLAGS : goal.returns-then-u16_at-gt-ALL_FLAGS
-returns-then-u16_at-gt-ALL_FLAGS c = high _ _ _ c.u16_at-len.ensures c.payload_length-want.ensures c.if-len-want.false c.if-trace-next.false c.if-want-ne0.true c.u16_at.ensures c.if-u16_at-gt-ALL_FLAGS.true
+returns-then-u16_at-gt-ALL_FLAGS c =
+    high _ _ _ c.u16_at-len.ensures c.payload_length-want.ensures c.if-len-want.false
+    c.if-trace-next.false c.if-want-ne0.true c.u16_at.ensures c.if-u16_at-gt-ALL_FLAGS.true
 
 pub returns-else-u16_at-gt-ALL_FLAGS : goal.returns-else-u16_at-gt-ALL_FLAGS
-returns-else-u16_at-gt-ALL_FLAGS c = low _ _ _ c.u16_at-len.ensures c.payload_length-want.ensures c.if-len-want.false c.if-trace-next.false c.if-want-ne0.true c.u16_at.ensures c.if-u16_at-gt-ALL_FLAGS.false
+returns-else-u16_at-gt-ALL_FLAGS c =
+    low _ _ _ c.u16_at-len.ensures c.payload_length-want.ensures c.if-len-want.false
+    c.if-trace-next.false c.if-want-ne0.true c.u16_at.ensures c.if-u16_at-gt-ALL_FLAGS.false
 
 pub returns-else-want-ne0 : goal.returns-else-want-ne0
-returns-else-want-ne0 c = bare _ _ _ c.u16_at-len.ensures c.payload_length-want.ensures c.if-len-want.false c.if-trace-next.false c.if-want-ne0.false
+returns-else-want-ne0 c =
+    bare _ _ _ c.u16_at-len.ensures c.payload_length-want.ensures c.if-len-want.false
+    c.if-trace-next.false c.if-want-ne0.false

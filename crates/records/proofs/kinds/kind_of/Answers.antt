@@ -24,4 +24,10 @@ returns-in-4 c = sym (ap kind_of c.in-4.is)
 pub returns-in_default : goal.returns-in_default
 unfolding kind_of
 returns-in_default c =
-    simp (ne_eqb c.args.number 1 (λ e. omega arith), ne_eqb c.args.number 2 (λ e. omega arith), ne_eqb c.args.number 3 (λ e. omega arith), ne_eqb c.args.number 4 (λ e. omega arith))
+    let n = c.args.number in
+    simp (
+      ne_eqb n 1 (λ e. omega arith),
+      ne_eqb n 2 (λ e. omega arith),
+      ne_eqb n 3 (λ e. omega arith),
+      ne_eqb n 4 (λ e. omega arith),
+    )

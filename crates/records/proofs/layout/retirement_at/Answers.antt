@@ -7,5 +7,13 @@ use Rattle.records.proofs.layout.retirement_at.Goals as goal
 pub returns : goal.returns
 unfolding retirement_at
 returns c =
-    rw (to_z-of_z {w = w32} {z = c.i32_of.result} (record { sfits = c.i32_of.type_inv }), c.i32_of.ensures, c.u32_at.ensures, c.u32_at-pc.ensures, c.u32_at-ppc.ensures, c.u16_at-flags.ensures, c.u16_at-op.ensures)
+    rw (
+      to_z-of_z {w = w32} {z = c.i32_of.result} (record { sfits = c.i32_of.type_inv }),
+      c.i32_of.ensures,
+      c.u32_at.ensures,
+      c.u32_at-pc.ensures,
+      c.u32_at-ppc.ensures,
+      c.u16_at-flags.ensures,
+      c.u16_at-op.ensures,
+    )
     at c.retirement_of.ensures

@@ -16,7 +16,8 @@ pub taken_at-requires : goal.taken_at-requires
 taken_at-requires c = there _ _ _ (sym c.fault_at-verdict.ensures ∙ c.in-Accepted.is)
 
 pub returns-in-Accepted : goal.returns-in-Accepted
-returns-in-Accepted c = c.taken_at.ensures ∙ sym (record_by _ _ _ (sym c.fault_at-verdict.ensures ∙ c.in-Accepted.is))
+returns-in-Accepted c =
+    c.taken_at.ensures ∙ sym (record_by _ _ _ (sym c.fault_at-verdict.ensures ∙ c.in-Accepted.is))
 
 pub returns-in-Refused : goal.returns-in-Refused
 returns-in-Refused c = sym (record_by _ _ _ (sym c.fault_at-verdict.ensures ∙ c.in-Refused.is))

@@ -13,7 +13,8 @@ use Rattle.records.specs.Record.{event_at}
 use Rattle.records.proofs.record.taken_at.Goals as goal
 
 -- what is told of the kind is told of both
-of-kind : (s : List ℕ) (at : ℕ) (kind : Kind) {k : Kind} → kind ≡ k → {e : Event} {next : ℕ} → e ≡ event_at s at k → next ≡ next_place at k
+of-kind : (s : List ℕ) (at : ℕ) (kind : Kind) {k : Kind} → kind ≡ k → {e : Event} {next : ℕ}
+    → e ≡ event_at s at k → next ≡ next_place at k
     → Got e next ≡ Got (event_at s at kind) (next_place at kind)
 of-kind s at kind told q n = ap₂ Got q n ∙ sym (ap (λ (k : Kind). Got (event_at s at k) (next_place at k)) told)
 
