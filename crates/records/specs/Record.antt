@@ -15,7 +15,7 @@
 --   Unrefused trace at       ==  what stands at the place is not refused
 --
 -- The place of each of these refusals is the "record start", so each carries `at`.
-use Rattle.std.specs.Prelude.{ℕ, ◌+◌, ◌-◌, ◌≡◌, Bool, not, ◌&&◌, List, eqb, ltb, length}
+use Rattle.std.specs.Prelude.{ℕ, ◌-◌, ◌≡◌, Bool, not, ◌&&◌, List, eqb, ltb, length}
 use Rattle.bits.specs.Rows.{otherwise, ◌⇒◌⨾◌, first}
 use Rattle.state.specs.declared.Event.{Event}
 use Rattle.state.specs.declared.Event.TheVariants.{Retired, Broken, ClearedAll, ClearedUser}

@@ -11,7 +11,6 @@
 --   checked_of said        ==  what a check of all records answers: the number of retirements, or the refusal
 use Rattle.std.specs.Prelude.{ℕ, zero, suc, List, [], ◌∷◌}
 use Rattle.state.specs.declared.Event.{Event}
-use Rattle.state.specs.declared.Event.TheVariants.{Retired, Broken, ClearedAll, ClearedUser}
 use Rattle.refusals.specs.declared.Refusal.{Refusal}
 use Rattle.records.specs.declared.record.Read.{Read}
 use Rattle.records.specs.declared.record.Read.TheVariants.{Got, Bad, End}
