@@ -1,5 +1,4 @@
 -- An accepted image read and written: each part is put as it stands, and a shut window has zeros. So one of kind 17 gives the same bytes, and one of kind 16 those of kind 17 with its own payload and a head of zeros.
--- Assumes nothing.
 use mathlib.Core.Path.{◌≡◌, refl, sym, ap, ◌∙◌}
 use mathlib.Core.Bool.{Bool, true, false, not, ◌&&◌, ◌||◌, true≢false}
 use mathlib.Core.List.{List, ◌++◌, append_assoc}

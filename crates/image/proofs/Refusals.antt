@@ -1,5 +1,4 @@
 -- Each verdict is given then and only then: by the three tests of the rows, all cases.
--- Assumes nothing.
 use mathlib.Core.Path.{◌≡◌, refl, sym, ap}
 use mathlib.Core.Bool.{Bool, true, false, not, ◌&&◌, true≢false}
 use mathlib.Core.List.{List}

@@ -1,5 +1,4 @@
 -- The two round trips as image writing and image reading give them, in any lent bytes with room.
--- Assumes nothing.
 use mathlib.Core.Path.{◌≡◌, ap, ◌∙◌}
 use mathlib.Core.List.{List, ◌++◌}
 use Prim.Native.Nat.{ℕ, ◌+◌, ◌≤◌}

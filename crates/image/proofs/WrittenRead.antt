@@ -1,5 +1,4 @@
 -- An image written and read back gives the state as it is read: each part is read where it was put.
--- Assumes nothing.
 use mathlib.Core.Path.{◌≡◌, sym, ap, ◌∙◌}
 use mathlib.Core.Bool.{false}
 use mathlib.Core.List.{List, ◌++◌, append_assoc}
