@@ -1,6 +1,6 @@
 -- The cache's answer and the next cache, from what each call gave: where a retirement asks, and where it does not.
 -- Assumes nothing.
-use mathlib.Core.Path.{◌≡◌, ap₂, ◌∙◌}
+use mathlib.Core.Path.{◌≡◌}
 use mathlib.Core.Bool.{Bool, true, false, not}
 use Rattle.branch_cache.specs.declared.BranchCache060.{BranchCache060}
 use Rattle.branch_cache.specs.declared.slot.Predicted.{Predicted}

@@ -8,15 +8,30 @@ use cost::Answer;
 use state::{answer_of, consulted};
 use window::{Controls, Instruction};
 
-// What the cache says of a retirement, whose branch was taken or not; of the arrays only the slot of its ppc is stored,
-// and only where the cache is asked.
+// What the cache says of a retirement; of the arrays only the slot of its ppc is stored, and only where the cache is
+// asked.
 pub fn ask_in_place(
+    tags: &mut [u32; 256],
+    state: &mut [u8; 256],
+    i: Instruction,
+    k: Controls,
+) -> Answer
+    ensures { asked result (cache_at tags.new state.new)
+        ≡ asked_of (cache_at tags.old state.old) i k }
+{
+    let taken = cost::taken(i, k);
+    ask_told(tags, state, i, k, taken)
+}
+
+// The same, for a caller that knows whether the branch was taken.
+pub fn ask_told(
     tags: &mut [u32; 256],
     state: &mut [u8; 256],
     i: Instruction,
     k: Controls,
     taken: bool,
 ) -> Answer
+    // Each caller asks the code of `taken` first.
     requires { taken ≡ taken_of i k }
     ensures { asked result (cache_at tags.new state.new)
         ≡ asked_of (cache_at tags.old state.old) i k }

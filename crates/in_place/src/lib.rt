@@ -34,7 +34,7 @@ pub use told::{answer_in, clocks_in};
 use window::RawCount;
 pub use windows::{WINDOW_NUMBERS, WindowNumbers, put_window, see_window, shut_window, window_at};
 
-// The step, and the one place where an opcode is looked up: the compiler lays a function so large into a single caller
+// The step of a number, and the one place where an opcode is looked up: the compiler lays a function so large into a single caller
 // alone. It is asked by a number, of which bit 0 is the profile's: to retire, or, where bit 1 is set, only what the
 // profile has of the opcode, as an entry; then the lent numbers stay.
 fn step_at(
@@ -76,6 +76,26 @@ fn step_at(
     retire_neither(window, op, i, k)
 }
 
+// The step.
+fn retire(
+    tags: &mut [u32; 256],
+    state: &mut [u8; 256],
+    window: &mut WindowNumbers,
+    profile: Profile,
+    op: u16,
+    flags: u16,
+    ppc: u32,
+    pc: u32,
+    raw: RawCount,
+) -> u64
+    ensures { paid_by result (lent tags.new state.new window.new)
+        ≡ retire_at_of profile (lent tags.old state.old window.old)
+        (retirement_of op flags ppc pc raw) }
+{
+    let number = profile::number_of(profile);
+    step_at(tags, state, window, number, op, flags, ppc, pc, raw.0)
+}
+
 // One retirement of these numbers, the profile's among them: its clocks and what the cache predicted. Numbers go
 // through a call in registers, where structs would go through memory.
 pub fn retire_at(
@@ -93,8 +113,8 @@ pub fn retire_at(
         ≡ retire_at_of (profile_at profile) (lent tags.old state.old window.old)
         (retirement_of op flags ppc pc (raw_count raw)) }
 {
-    let number = profile::number_of(profile::profile_at(profile));
-    step_at(tags, state, window, number, op, flags, ppc, pc, raw)
+    let p = profile::profile_at(profile);
+    retire(tags, state, window, p, op, flags, ppc, pc, RawCount(raw))
 }
 
 // What the profile has of an opcode, as an entry. The lent numbers stay.

@@ -6,7 +6,7 @@ ghost use Rattle.window.specs.declared.dispatch.Instruction.{Instruction};
 ghost use Rattle.in_place.specs.Lent.{lent};
 ghost use Rattle.in_place.specs.Retire.{paid_by, retire_by_of};
 
-use crate::ask::ask_in_place;
+use crate::ask::ask_told;
 use crate::told::told;
 use crate::windows::{WindowNumbers, put_head, shut_window, window_at};
 use class_word::F_DBCC;
@@ -27,7 +27,7 @@ pub fn retire_branch(
         ≡ retire_by_of i op k (lent tags.old state.old window.old) }
 {
     let taken = cost::taken(i, k);
-    let predicted = ask_in_place(tags, state, i, k, taken);
+    let predicted = ask_told(tags, state, i, k, taken);
     let w = window_at(*window);
     shut_window(window);
     let branch = cost::branch_cost_060(i.word.has(F_DBCC), taken, w.opened, predicted);

@@ -58,7 +58,7 @@ fn run_records(
     let mut count: usize = 0;
     let mut total: u64 = 0;
     while at < trace.len() {
-        let turn = running::run_record(trace, tags, state, window, &mut decoded, profile, at);
+        let turn = running::run_checked(trace, tags, state, window, &mut decoded, profile, at);
         at = turn.next;
         total += turn.cost.0 as u64;
         if 0 < turn.count {

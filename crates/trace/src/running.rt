@@ -23,7 +23,7 @@ pub struct Turn {
 }
 
 // Any record: what stands at `at`, its event in place. Where there is none, nothing is done.
-fn run_any(
+fn run_record(
     trace: &[u8],
     tags: &mut [u32; 256],
     state: &mut [u8; 256],
@@ -93,7 +93,7 @@ fn run_whole(
 }
 
 // The record at `at`, which was checked: its event in place. Where there is none, nothing is done.
-pub fn run_record(
+pub fn run_checked(
     trace: &[u8],
     tags: &mut [u32; 256],
     state: &mut [u8; 256],
@@ -119,5 +119,5 @@ pub fn run_record(
             answer: in_place::answer_in(told),
         };
     }
-    run_any(trace, tags, state, window, profile, at)
+    run_record(trace, tags, state, window, profile, at)
 }
