@@ -5,7 +5,7 @@
 
 ghost use Rattle.std.specs.Prelude.{◌<◌};
 
-use libc::STDOUT_FILENO;
+use std::io;
 
 // One line, 20 bytes with its end.
 fn line(op: u16) -> [u8; 20] {
@@ -45,13 +45,11 @@ fn page(high: u16) -> [u8; 5120]
     page
 }
 
-fn main() {
+fn main(rt: HostRuntime) -> io::Result<()> {
     let mut high: u16 = 0;
     while high < 256 {
-        let text = page(high);
-        if !io::write_all(STDOUT_FILENO, &text) {
-            return;
-        }
+        rt.write_all(&page(high))?;
         high += 1;
     }
+    Ok(())
 }
