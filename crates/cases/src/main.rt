@@ -93,11 +93,8 @@ fn print_ran(rt: &impl Print, ran: HostRan) -> io::Result<()> {
 fn spell(bytes: &[u8], text: &mut [u8])
     requires { 2 * length bytes.now ≤ length text.old }
 {
-    let mut i: usize = 0;
-    while i < bytes.len() {
-        let b = bytes[i];
-        text::put_hex2(text, 2 * i, b);
-        i += 1;
+    for i in 0..bytes.len() {
+        text::put_hex2(text, 2 * i, bytes[i]);
     }
 }
 
@@ -119,15 +116,13 @@ fn print_hex(rt: &impl Print, bytes: &[u8]) -> io::Result<()> {
 
 // Whether the bytes from one place to another hold zeros, those that there are.
 fn zeros(bytes: &[u8], from: usize, to: usize) -> bool {
-    let mut i = from;
-    while i < to {
+    for i in from..to {
         if bytes.len() <= i {
             return true;
         }
         if bytes[i] != 0 {
             return false;
         }
-        i += 1;
     }
     true
 }
@@ -144,10 +139,8 @@ fn print_image(rt: &impl Print, image: [u8; IMAGE_LENGTH]) -> io::Result<()> {
 
 // The lent bytes before a case, so that a byte written, or not, shows.
 fn fill(lent: &mut [u8]) {
-    let mut i: usize = 0;
-    while i < lent.len() {
+    for i in 0..lent.len() {
         lent[i] = ((i % 256 * 7 + 3) % 256) as u8;
-        i += 1;
     }
 }
 
@@ -165,10 +158,8 @@ fn words_of(bytes: &[u8]) -> Words
 {
     let count = bytes.len() / 4 % 16384;
     let mut all = [0u32; 16384];
-    let mut i: usize = 0;
-    while i < count {
+    for i in 0..count {
         all[i] = little_endian::u32_at(bytes, 4 * i);
-        i += 1;
     }
     Words { count, all }
 }
@@ -176,11 +167,8 @@ fn words_of(bytes: &[u8]) -> Words
 // The same words back into bytes.
 fn put_words(words: [u32; 16384], bytes: &mut [u8]) {
     let count = bytes.len() / 4 % 16384;
-    let mut i: usize = 0;
-    while i < count {
-        let word = words[i];
-        little_endian::put_u32(bytes, 4 * i, word);
-        i += 1;
+    for i in 0..count {
+        little_endian::put_u32(bytes, 4 * i, words[i]);
     }
 }
 
@@ -276,10 +264,8 @@ fn record_or_none(bytes: &[u8], i: usize) -> Retirement {
 
 fn records_of(bytes: &[u8]) -> [Retirement; 64] {
     let mut all = [record_or_none(bytes, 0); 64];
-    let mut i: usize = 0;
-    while i < 64 {
+    for i in 0..64 {
         all[i] = record_or_none(bytes, i);
-        i += 1;
     }
     all
 }
@@ -583,12 +569,10 @@ fn one_case(rt: &(impl io::Input + Print)) -> io::Result<bool> {
 }
 
 fn main(rt: HostRuntime) -> io::Result<()> {
-    let mut i: usize = 0;
-    while i < MOST_CASES {
+    for _ in 0..MOST_CASES {
         if !one_case(&rt)? {
             return Ok(());
         }
-        i += 1;
     }
     Ok(())
 }

@@ -23,10 +23,8 @@ fn list(rt: &impl Print, trace: &[u8]) -> io::Result<()> {
 
 fn main(rt: HostRuntime) -> io::Result<()> {
     let mut bytes = [0u8; 65537];
-    let mut i: usize = 0;
-    while i < 65537 {
+    for i in 0..65537 {
         bytes[i] = break_at(i);
-        i += 1;
     }
     list(&rt, &bytes[..65536])?;
     list(&rt, &bytes)

@@ -33,10 +33,8 @@ fn record(i: usize) -> Retirement {
 
 fn records() -> [Retirement; 64] {
     let mut all = [record(0); 64];
-    let mut i: usize = 0;
-    while i < 64 {
+    for i in 0..64 {
         all[i] = record(i);
-        i += 1;
     }
     all
 }
@@ -74,12 +72,10 @@ fn main(rt: HostRuntime) -> io::Result<()> {
     let mut answers = [0u8; 64];
     let mut timing = Oep060Timing::fresh();
     let mut total: u64 = 0;
-    let mut i: usize = 0;
-    while i < RUNS {
+    for _ in 0..RUNS {
         let ran = run(all, &mut costs, &mut answers, timing);
         total = total.wrapping_add(ran.total);
         timing = ran.timing;
-        i += 1;
     }
     print_last(&rt, total, &costs, &answers)
 }

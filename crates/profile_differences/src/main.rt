@@ -79,14 +79,12 @@ fn print_count(rt: &impl Print, count: u32) -> io::Result<()> {
 
 fn main(rt: HostRuntime) -> io::Result<()> {
     let mut count: u32 = 0;
-    let mut op: u32 = 0;
-    while op < 65536 {
+    for op in 0..65536u32 {
         let told = tell(&rt, op as u16);
         if let Told::Unwritable = told {
             return Ok(());
         }
         count += lines(told);
-        op += 1;
     }
     print_count(&rt, count)
 }
