@@ -64,9 +64,11 @@ function scan(s, i,    n, k, c, before, rest, w, alt) {
     }
 }
 
-FNR == 1 { crate = FILENAME; sub(/^crates\//, "", crate); sub(/\/.*/, "", crate); sig = contract = decl = table = 0; fn = "-" }
+FNR == 1 { crate = FILENAME; sub(/^crates\//, "", crate); sub(/\/.*/, "", crate); sig = contract = decl = table = skipped = 0; fn = "-" }
 { t = $0; sub(/^ +/, "", t) }
-t == "" || t ~ /^(\/\/|(pub )?(use|mod|type) |ghost use |#\[)/ { next }
+t == "" || t ~ /^\/\// { next }
+# an import or an attribute, over as many lines as it has
+skipped || t ~ /^((pub )?(use|mod|type) |ghost use |#!?\[)/ { skipped = t !~ /[;\]]$/; next }
 
 # Fields of a type, cases with the same payload, constants of a type: each may stand for another of them.
 pass == 1 {
@@ -85,9 +87,9 @@ pass == 1 {
 }
 
 # Contracts, signatures and declarations are not changed.
-contract > 0 || (sig && t ~ /^(requires|ensures) \{/) { contract += braces(t); next }
+contract > 0 || (sig && t ~ /^(requires|ensures)\*? ([a-z_0-9]+ )?\{/) { contract += braces(t); next }
 decl > 0 || t ~ /^(pub )?(struct|enum) / { decl += braces(t); next }
-match(t, /^(pub )?(extern "C" )?fn [A-Za-z0-9_]+/) { fn = substr(t, 1, RLENGTH); sub(/.* /, "", fn); sig = 1 }
+match(t, /^(pub )?(const )?(extern "C" )?fn [A-Za-z0-9_]+/) { fn = substr(t, 1, RLENGTH); sub(/.* /, "", fn); sig = 1 }
 sig { if (t ~ /\{$/) sig = 0; next }
 t ~ /^[][{}(),;]+$/ { table = 0; next }
 table && (FNR + seed) % 16 { late = " late"; scan($0, 1); late = ""; next }

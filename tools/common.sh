@@ -23,7 +23,7 @@ is_number() { # WORD
     case $1 in "" | 0* | *[!0-9]* | ???????????????????*) return 1 ;; esac
 }
 
-# Finds the kit: `home`, and of it for this machine `kit`, the toolchain; `emulator` is empty where x86-64 is at home.
+# Finds the kit: `home`, and of it `kit`, the toolchain, which is for x86-64 Linux.
 need_kit() { # STATUS, to end with where there is none
     rt=$(command -v rt) || die "$1" "the Rattle kit is missing: its command 'rt' is not on the PATH"
     while [ -L "$rt" ]; do
@@ -31,38 +31,36 @@ need_kit() { # STATUS, to end with where there is none
         case $link in /*) rt=$link ;; *) rt=$(dirname "$rt")/$link ;; esac
     done
     home=${RATTLE_HOME:-$(cd "$(dirname "$rt")/.." && pwd -P)}
-    kit=$home/on/$(uname -m)/toolchain
-    [ -d "$kit" ] || die "$1" "the Rattle kit at hand has no toolchain for this machine, $(uname -m)"
-    emulator=$kit/bin/qemu-x86_64
-    [ -x "$emulator" ] || emulator=''
+    kit=$home/toolchain
+    [ -d "$kit" ] || die "$1" "the Rattle kit at hand has no toolchain"
 }
 
 # Whether a file was built from the sources as they are: none has changed since tools/build noted that it began. The
 # time of the change is asked, and not that of the content, which `cp -p` and `tar -x` bring along.
 current() { # FILE NAME
     [ -f "$1" ] && [ -f "$top/target/run/$2" ] &&
-        [ -z "$(find "$top/crates" "$top/crates.txt" -cnewer "$top/target/run/$2" -print 2>/dev/null | head -n 1)" ]
+        [ -z "$(find "$top"/crates/*/src "$top"/crates/*/specs "$top"/crates/*/proofs "$top/crates.txt" \
+            -cnewer "$top/target/run/$2" -print 2>/dev/null | head -n 1)" ]
 }
 
-# Makes the folder `work` for scratch files: in memory, where 4 GiB are free and a program may run, since a check lays
-# out a thousand files of some 130 MB and removes them again; else in the usual place. A TMPDIR that is set is kept.
+# Makes the folder `work` for scratch files, in TMPDIR where that is set: on the disk, since a check may lay out some
+# gigabytes, and needs the memory itself.
 make_work() {
-    memory=/dev/shm place=${TMPDIR:-/tmp}
+    place=${TMPDIR:-/tmp}
     case $place in /*) ;; *) place=$(pwd)/$place ;; esac
-    if [ -z "${TMPDIR:-}" ] && [ -w "$memory" ] &&
-        [ "$(df -Pk "$memory" | awk 'NR == 2 { print int($4 / 1048576) }')" -ge 4 ]; then
-        work=$(mktemp -d "$memory/timing-060.XXXXXX")
-        printf '#!/bin/sh\n' >"$work/probe" && chmod 700 "$work/probe" && "$work/probe" 2>/dev/null || {
-            rm -rf "$work"
-            work=''
-        }
-    fi
-    [ -n "$work" ] || work=$(mktemp -d "$place/timing-060.XXXXXX") || die 1 "no scratch folder can be made in $place"
+    work=$(mktemp -d "$place/timing-060.XXXXXX") || die 1 "no scratch folder can be made in $place"
     # programs that a check runs as nobody must reach their folder
     mkdir "$work/tmp" && chmod 711 "$work" "$work/tmp" && mkfifo "$work/alive" || {
         rm -rf "$work"
         die 1 "the scratch folder cannot be used"
     }
+}
+
+# Copies crates/ and crates.txt into a folder, with the libraries that were proved and built, and without what checks
+# keep of their work: rt finds that again by its content.
+copy_crates() { # FOLDER
+    mkdir -p "$1" && cp "$top/crates.txt" "$1/" &&
+        (cd "$top" && tar -cf - --exclude='crates/*/out/incremental' crates) | (cd "$1" && tar -xf -)
 }
 
 # Ends a job with all that it started, and removes its scratch folder, which has all that these leave.
@@ -73,7 +71,7 @@ end_job() {
         tries=50 # one that is still ending may write, and holds the lock
         while [ "$tries" -gt 0 ] && kill -s 0 -- "-$job" 2>/dev/null; do sleep 0.1 && tries=$((tries - 1)); done
     fi
-    [ -z "$work" ] || rm -rf "$work"
+    [ -z "$work" ] || rm -rf "$work" 2>/dev/null || { sleep 1 && rm -rf "$work"; } # what rt started ends just after it
 }
 
 end_warden() {
@@ -91,8 +89,8 @@ interrupted() { # STATUS
     exit "$1"
 }
 
-# Runs a command that uses target/, alone among all scripts of this repository, with scratch files in a folder of its
-# own. Ended by INT, TERM or HUP, it leaves nothing behind. The lock is the kernel's, on the open repository folder:
+# Runs a command that uses target/ or an out/, alone among all scripts of this repository, with scratch files in a
+# folder of its own. Ended by INT, TERM or HUP, it leaves nothing behind. The lock is the kernel's, on the open repository folder:
 # whoever holds it and dies has let go of it. Killed outright, this script leaves a job; a warden, in a session of its
 # own, has read the job's number from the pipe `alive`, hears the end of the pipe, whose other end only this script
 # holds, and ends the job.

@@ -2,4 +2,3 @@ pub mod Refusals
 pub mod Run
 pub mod Places
 pub mod Loop
-pub mod Again

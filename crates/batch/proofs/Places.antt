@@ -1,7 +1,6 @@
 -- Of the loop of the batch: its sums, and one of the two lent runs, of which place after place is stored.
--- Assumes nothing.
 use mathlib.Core.Path.{◌≡◌, sym, ◌∙◌, ap}
-use Prim.Native.Nat.{ℕ, suc, ◌+◌, ◌-◌, ◌<◌, ◌≤◌}
+use Prim.Native.Nat.{ℕ, suc, ◌+◌, ◌<◌, ◌≤◌}
 use native.Mathlib.Omega.{arith}
 use mathlib.Core.List.{[], ◌∷◌, ◌++◌, List, append-nil}
 use lib.ListN.{length, set, take, drop, take-append-drop}
@@ -13,22 +12,32 @@ no_more_left i n l k = omega (arith, l, k)
 pub regroup : (a b c : ℕ) → a + b + c ≡ a + (b + c)
 regroup a b c = omega arith
 
-pub from_none : (a : ℕ) → 0 + a ≡ a
-from_none a = omega arith
-
 pub nothing_added : (a : ℕ) → a + 0 ≡ a
 nothing_added a = omega arith
 
 pub one_more : (i : ℕ) → i + 1 ≡ suc i
 one_more i = omega arith
 
-pub is_fewer : (n i : ℕ) → i < n → n - suc i < n - i
-is_fewer n i l = omega (arith, l)
+-- a number is stored in place i, and what is left is one shorter
+pub one_further : (i x : ℕ) (xs ys later whole : List ℕ)
+    → i < length xs
+    → ys ≡ set xs i x
+    → take i xs ++ (x ∷ later) ≡ whole
+    → take (suc i) ys ++ later ≡ whole
+one_further i x xs ys later whole l e f =
+    ap (λ (zs : List ℕ). take (suc i) zs ++ later) e
+    ∙ ap (λ (zs : List ℕ). zs ++ later) (take-suc-set xs i x l)
+    ∙ append_snoc (take i xs) x later ∙ f
 
--- a number is stored in place i, and what is left is one shorter; and once nothing is left, the run is the whole and the places beyond
-pub one_further : (i x : ℕ) (xs ys later whole : List ℕ) → i < length xs → ys ≡ set xs i x → take i xs ++ (x ∷ later) ≡ whole → take (suc i) ys ++ later ≡ whole
-one_further i x xs ys later whole l e f = ap (λ (zs : List ℕ). take (suc i) zs ++ later) e ∙ ap (λ (zs : List ℕ). zs ++ later) (take-suc-set xs i x l) ∙ append_snoc (take i xs) x later ∙ f
-
-pub all_there : (i m : ℕ) (xs ps later whole : List ℕ) → i ≡ m → later ≡ [] → take i xs ++ later ≡ whole → drop m xs ≡ drop m ps → xs ≡ whole ++ drop m ps
+-- once nothing is left, the run is the whole and the places beyond
+pub all_there : (i m : ℕ) (xs ps later whole : List ℕ)
+    → i ≡ m
+    → later ≡ []
+    → take i xs ++ later ≡ whole
+    → drop m xs ≡ drop m ps
+    → xs ≡ whole ++ drop m ps
 all_there i m xs ps later whole e n f b =
-    sym (take-append-drop m xs) ∙ ap (λ (zs : List ℕ). zs ++ drop m xs) (ap (λ (j : ℕ). take j xs) (sym e) ∙ sym (append-nil (take i xs)) ∙ ap (λ (zs : List ℕ). take i xs ++ zs) (sym n) ∙ f) ∙ ap (λ (zs : List ℕ). whole ++ zs) b
+    let longer = sym (append-nil (take i xs)) ∙ ap (λ (zs : List ℕ). take i xs ++ zs) (sym n) in
+    sym (take-append-drop m xs)
+    ∙ ap (λ (zs : List ℕ). zs ++ drop m xs) (ap (λ (j : ℕ). take j xs) (sym e) ∙ longer ∙ f)
+    ∙ ap (λ (zs : List ℕ). whole ++ zs) b

@@ -1,5 +1,5 @@
--- "Each number is given then and only then": refusal 1 for over 1,048,576 records, else refusal 7 where one of the two lent runs has under one place a record, else none. By the two tests of `batch_verdict_of`.
--- Assumes nothing.
+-- "Each number is given then and only then": refusal 1 for over 1,048,576 records, else refusal
+-- 7 where one of the two lent runs has under one place a record, else none. By the two tests of `batch_verdict_of`.
 use mathlib.Core.Path.{◌≡◌, refl, ap, ◌∙◌}
 use mathlib.Core.Bool.{Bool, true, false, not, cond, ◌&&◌}
 use mathlib.Core.List.{List}
@@ -22,10 +22,15 @@ module _ (P : Profile) (rs : List Retirement) (lent : Runs) (t : Oep060Timing) w
   verdict_is (Refused refusal) = refl
 
   -- what holds of each of the three verdicts, where the two tests come out so, holds of the batch's
-  by_tests : (f : Verdict → Bool) (g : Bool → Bool → Bool) → ((few : Bool) → f (Refused Oversized) ≡ g true few) → f (Refused (Room 0)) ≡ g false true → f Accepted ≡ g false false
+  by_tests : (f : Verdict → Bool) (g : Bool → Bool → Bool)
+      → ((few : Bool) → f (Refused Oversized) ≡ g true few)
+      → f (Refused (Room 0)) ≡ g false true
+      → f Accepted ≡ g false false
       → f (batch_of P rs lent t).ran.verdict ≡ g (ltb 1048576 (length rs)) (short (rooms_of lent) (length rs))
   unfolding batch_verdict_of batch_of
-  by_tests f g over few taken = ap f (verdict_is (batch_verdict_of (length rs) (rooms_of lent))) ∙ go (ltb 1048576 (length rs)) (short (rooms_of lent) (length rs))
+  by_tests f g over few taken =
+      ap f (verdict_is (batch_verdict_of (length rs) (rooms_of lent)))
+      ∙ go (ltb 1048576 (length rs)) (short (rooms_of lent) (length rs))
     where
       go : (o u : Bool) → f (cond o (Refused Oversized) (cond u (Refused (Room 0)) Accepted)) ≡ g o u
       go true u = over u
@@ -35,8 +40,10 @@ module _ (P : Profile) (rs : List Retirement) (lent : Runs) (t : Oep060Timing) w
   pub batch_gives_1 : gives 1 0 (batch_of P rs lent t).ran.verdict ≡ ltb 1048576 (length rs)
   batch_gives_1 = by_tests (gives 1 0) (λ over few. over) (λ few. refl) refl refl
 
-  pub batch_gives_7 : gives 7 0 (batch_of P rs lent t).ran.verdict ≡ (not (ltb 1048576 (length rs)) && short (rooms_of lent) (length rs))
+  pub batch_gives_7 : gives 7 0 (batch_of P rs lent t).ran.verdict
+      ≡ (not (ltb 1048576 (length rs)) && short (rooms_of lent) (length rs))
   batch_gives_7 = by_tests (gives 7 0) (λ over few. not over && few) (λ few. refl) refl refl
 
-  pub batch_accepts : is_accepted (batch_of P rs lent t).ran.verdict ≡ (not (ltb 1048576 (length rs)) && not (short (rooms_of lent) (length rs)))
+  pub batch_accepts : is_accepted (batch_of P rs lent t).ran.verdict
+      ≡ (not (ltb 1048576 (length rs)) && not (short (rooms_of lent) (length rs)))
   batch_accepts = by_tests is_accepted (λ over few. not over && not few) (λ few. refl) refl refl

@@ -114,7 +114,7 @@ fn finish(carried: Carried, judged: Judged) -> Ran
     }
 }
 
-// The batch: each record is copied out of the lent run and handed to the step. A walk by hand.
+// The batch: each record is copied out of the lent run and handed to the step.
 pub fn run_batch(rs: &[Retirement], costs: &mut [u32], answers: &mut [u8], chosen: Chosen) -> Ran
     ensures { batch_outcome result (runs costs.new answers.new)
         ≡ batch_of chosen.profile rs.now (runs costs.old answers.old)
@@ -142,7 +142,7 @@ fn least(n: usize, most: usize) -> usize
     most
 }
 
-// The batch for a caller with no lent run: the first n of 64 records, or all. A walk by hand.
+// The batch for a caller with no lent run: the first n of 64 records, or all.
 pub fn run_batch_of_64(
     rs: [Retirement; 64],
     n: usize,

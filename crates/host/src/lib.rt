@@ -1,4 +1,4 @@
-// What a host in C or Rust calls: it lends its state as numbers, and need test nothing first.
+// What a host calls: it lends its state as numbers, and need test nothing first. `host_c` has the same for C and Rust.
 //
 // `results` has what a run or an explained step gives, as numbers, and the next state stored; `words` a batch as 32-bit
 // words. Each function here is a thin one over the crates below: raw counts and clocks are taken apart here and nowhere
@@ -39,12 +39,7 @@ pub struct HostMasks {
 }
 
 // A fresh state.
-#[unsafe(no_mangle)]
-pub extern "C" fn timing_060_fresh_at(
-    tags: &mut [u32; 256],
-    state: &mut [u8; 256],
-    window: &mut WindowNumbers,
-)
+pub fn timing_060_fresh_at(tags: &mut [u32; 256], state: &mut [u8; 256], window: &mut WindowNumbers)
     ensures { lent tags.new state.new window.new ≡ lent_of fresh_of }
 {
     fresh_at(tags, state, window)
@@ -52,8 +47,7 @@ pub extern "C" fn timing_060_fresh_at(
 
 // One retirement in place, in the profile of this number: its clocks in the low 32 bits, and above them what the cache
 // predicted, 0 to 3.
-#[unsafe(no_mangle)]
-pub extern "C" fn timing_060_retire_at(
+pub fn timing_060_retire_at(
     tags: &mut [u32; 256],
     state: &mut [u8; 256],
     window: &mut WindowNumbers,
@@ -73,8 +67,7 @@ pub extern "C" fn timing_060_retire_at(
 
 // The same retirement in place, and why it costs what it costs: above the clocks 8 bits for what the cache predicted,
 // and above them the reason, 0 to 13.
-#[unsafe(no_mangle)]
-pub extern "C" fn timing_060_explain_at(
+pub fn timing_060_explain_at(
     tags: &mut [u32; 256],
     state: &mut [u8; 256],
     window: &mut WindowNumbers,
@@ -96,8 +89,7 @@ pub extern "C" fn timing_060_explain_at(
 }
 
 // The break: tags and slots stay, and are not lent.
-#[unsafe(no_mangle)]
-pub extern "C" fn timing_060_break_at(window: &mut WindowNumbers)
+pub fn timing_060_break_at(window: &mut WindowNumbers)
     ensures { (p : Profile) (tags state : List ℕ) → lent tags state window.new
         ≡ event_at_of p (lent tags state window.old) Broken }
 {
@@ -105,8 +97,7 @@ pub extern "C" fn timing_060_break_at(window: &mut WindowNumbers)
 }
 
 // CACR.CABC: the tags stay, and are not lent.
-#[unsafe(no_mangle)]
-pub extern "C" fn timing_060_clear_all_at(state: &mut [u8; 256], window: &mut WindowNumbers)
+pub fn timing_060_clear_all_at(state: &mut [u8; 256], window: &mut WindowNumbers)
     ensures { (p : Profile) (tags : List ℕ) → lent tags state.new window.new
         ≡ event_at_of p (lent tags state.old window.old) ClearedAll }
 {
@@ -114,16 +105,14 @@ pub extern "C" fn timing_060_clear_all_at(state: &mut [u8; 256], window: &mut Wi
 }
 
 // CACR.CUBC: the tags stay, and are not lent; the cache's own rule looks at none.
-#[unsafe(no_mangle)]
-pub extern "C" fn timing_060_clear_user_at(state: &mut [u8; 256], window: &mut WindowNumbers)
+pub fn timing_060_clear_user_at(state: &mut [u8; 256], window: &mut WindowNumbers)
     ensures { (p : Profile) (tags : List ℕ) → lent tags state.new window.new
         ≡ event_at_of p (lent tags state.old window.old) ClearedUser }
 {
     in_place::clear_user_at(state, window);
 }
 
-#[unsafe(no_mangle)]
-pub extern "C" fn timing_060_class_word(op: u16, profile: u32) -> u16
+pub fn timing_060_class_word(op: u16, profile: u32) -> u16
     ensures { result ≡ (profile_of (profile_at profile) op).word.0 }
 {
     // No profile's word depends on the masks, and so none are looked up.
@@ -137,8 +126,7 @@ pub extern "C" fn timing_060_class_word(op: u16, profile: u32) -> u16
     profile::read_in(p, op, i).word.0
 }
 
-#[unsafe(no_mangle)]
-pub extern "C" fn timing_060_masks_of(op: u16, profile: u32) -> HostMasks
+pub fn timing_060_masks_of(op: u16, profile: u32) -> HostMasks
     ensures { result ≡ host_masks_of (profile_at profile) op }
 {
     // Nor do a profile's masks depend on the word.
@@ -158,8 +146,7 @@ pub extern "C" fn timing_060_masks_of(op: u16, profile: u32) -> HostMasks
 
 // A run of a trace: the state is taken once, and the next one stored once; a refused run writes nothing. The answers
 // come last, where both their numbers go over the stack: a caller may take a slice for a struct or for two numbers.
-#[unsafe(no_mangle)]
-pub extern "C" fn timing_060_run_trace_at(
+pub fn timing_060_run_trace_at(
     trace: &[u8],
     costs: &mut [u8],
     tags: &mut [u32; 256],
@@ -183,8 +170,7 @@ pub extern "C" fn timing_060_run_trace_at(
 }
 
 // The same run, which writes each retirement's reason too. Answers and reasons come last, over the stack.
-#[unsafe(no_mangle)]
-pub extern "C" fn timing_060_explain_trace_at(
+pub fn timing_060_explain_trace_at(
     trace: &[u8],
     costs: &mut [u8],
     tags: &mut [u32; 256],
@@ -209,8 +195,7 @@ pub extern "C" fn timing_060_explain_trace_at(
 }
 
 // A batch of records of four words each; words beyond the last whole record are not read. The answers come last, too.
-#[unsafe(no_mangle)]
-pub extern "C" fn timing_060_run_batch_at(
+pub fn timing_060_run_batch_at(
     records: &[u32],
     costs: &mut [u32],
     tags: &mut [u32; 256],
@@ -228,8 +213,7 @@ pub extern "C" fn timing_060_run_batch_at(
 }
 
 // The image of a state; the count is the bytes written.
-#[unsafe(no_mangle)]
-pub extern "C" fn timing_060_image_write_at(
+pub fn timing_060_image_write_at(
     tags: &[u32; 256],
     state: &[u8; 256],
     window: &WindowNumbers,
@@ -245,8 +229,7 @@ pub extern "C" fn timing_060_image_write_at(
 }
 
 // The state of an image; a refused image gives a fresh state.
-#[unsafe(no_mangle)]
-pub extern "C" fn timing_060_image_read_at(
+pub fn timing_060_image_read_at(
     image: &[u8],
     tags: &mut [u32; 256],
     state: &mut [u8; 256],
