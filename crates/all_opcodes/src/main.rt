@@ -5,7 +5,7 @@
 
 ghost use Rattle.std.specs.Prelude.{◌<◌};
 
-use libc::STDOUT_FILENO;
+use std::io;
 
 // One line, 20 bytes with its end.
 fn line(op: u16) -> [u8; 20] {
@@ -25,10 +25,8 @@ fn put(page: &mut [u8; 5120], low: u16, text: [u8; 20])
     requires { low < 256 }
 {
     let at = low as usize * 20;
-    let mut j: usize = 0;
-    while j < 20 {
+    for j in 0..20 {
         page[at + j] = text[j];
-        j += 1;
     }
 }
 
@@ -37,21 +35,15 @@ fn page(high: u16) -> [u8; 5120]
     requires { high < 256 }
 {
     let mut page = [0u8; 5120];
-    let mut low: u16 = 0;
-    while low < 256 {
+    for low in 0..256 {
         put(&mut page, low, line(high * 256 + low));
-        low += 1;
     }
     page
 }
 
-fn main() {
-    let mut high: u16 = 0;
-    while high < 256 {
-        let text = page(high);
-        if !io::write_all(STDOUT_FILENO, &text) {
-            return;
-        }
-        high += 1;
+fn main(rt: HostRuntime) -> io::Result<()> {
+    for high in 0..256 {
+        rt.write_all(&page(high))?;
     }
+    Ok(())
 }

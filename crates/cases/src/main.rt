@@ -10,9 +10,10 @@ ghost use Rattle.std.specs.Prelude.{◌≡◌, true, ◌+◌, ◌*◌, ◌≤◌
 
 use host::HostRan;
 use image::IMAGE_LENGTH;
-use libc::{STDIN_FILENO, STDOUT_FILENO};
 use refusals::{Ran, Verdict};
 use state::{Oep060Timing, Retirement};
+use std::io;
+use std::io::Read;
 use step::Chosen;
 use window::{RawCount, Window};
 
@@ -24,20 +25,26 @@ fn space() -> [u8; 131070] {
     [0u8; 131070]
 }
 
+// Room for what a case lends, and 16 bytes or more beyond; a call, as `space` is.
+fn large_buffer() -> [u8; 65536]
+    ensures { 65536 ≡ length result }
+{
+    [0u8; 65536]
+}
+
 // Reads the first n bytes of a buffer from standard input; answers whether all came.
-fn read_part(buffer: &mut [u8], n: usize) -> bool
+fn read_part(rt: &impl io::Input, buffer: &mut [u8], n: usize) -> bool
     ensures { result ≡ true → n ≤ length buffer.old }
 {
     if buffer.len() < n {
         return false;
     }
-    io::read_full(STDIN_FILENO, &mut buffer[..n]) == n
+    rt.reader().read_exact(&mut buffer[..n]).is_ok()
 }
 
 // One byte; a word of one byte as text would cost the checker four steps in place of one.
-fn put(byte: u8) {
-    let text = [byte];
-    io::write_all(STDOUT_FILENO, &text);
+fn put(rt: &impl Print, byte: u8) -> io::Result<()> {
+    rt.write_all(&[byte])
 }
 
 // The first word of a line; where it has four letters, with a blank.
@@ -53,96 +60,87 @@ fn name_of(what: u8) -> [u8; 5] {
 }
 
 // A blank follows each first word; one has three letters.
-fn print_name(what: u8) {
+fn print_name(rt: &impl Print, what: u8) -> io::Result<()> {
     if what == 7 {
-        io::write_all(STDOUT_FILENO, b"why ");
-        return;
+        return rt.write_all(b"why ");
     }
     let name = name_of(what);
-    io::write_all(STDOUT_FILENO, &name);
+    rt.write_all(&name)?;
     if name[4] != b' ' {
-        put(b' ');
+        put(rt, b' ')?;
     }
+    Ok(())
 }
 
-fn print_number(n: u64) {
-    put(b' ');
-    io::print_decimal(STDOUT_FILENO, n);
+fn print_number(rt: &impl Print, n: u64) -> io::Result<()> {
+    print!(rt; " {n}")
 }
 
 // A refusal's number, 0 where nothing is refused, and its place; the count and the total.
-fn print_ran(ran: HostRan) {
+fn print_ran(rt: &impl Print, ran: HostRan) -> io::Result<()> {
     if ran.refusal == 0 {
-        io::write_all(STDOUT_FILENO, b"accepted");
+        rt.write_all(b"accepted")?;
     } else {
-        io::write_all(STDOUT_FILENO, b"refused");
+        rt.write_all(b"refused")?;
     }
-    print_number(ran.refusal);
-    print_number(ran.place);
-    print_number(ran.count);
-    print_number(ran.total);
+    print_number(rt, ran.refusal)?;
+    print_number(rt, ran.place)?;
+    print_number(rt, ran.count)?;
+    print_number(rt, ran.total)
 }
 
 // The digits of bytes.
 fn spell(bytes: &[u8], text: &mut [u8])
     requires { 2 * length bytes.now ≤ length text.old }
 {
-    let mut i: usize = 0;
-    while i < bytes.len() {
-        let b = bytes[i];
-        text::put_hex2(text, 2 * i, b);
-        i += 1;
+    for i in 0..bytes.len() {
+        text::put_hex2(text, 2 * i, bytes[i]);
     }
 }
 
 // Two digits a byte, or - for no byte. No case has more bytes than there is space for.
-fn print_hex(bytes: &[u8]) {
-    put(b' ');
+fn print_hex(rt: &impl Print, bytes: &[u8]) -> io::Result<()> {
+    put(rt, b' ')?;
     let n = bytes.len();
     if n == 0 {
-        put(b'-');
-        return;
+        return put(rt, b'-');
     }
     if 65535 < n {
-        return;
+        return Ok(());
     }
     let mut text = space();
     spell(bytes, &mut text);
     let end = 2 * n;
-    io::write_all(STDOUT_FILENO, &text[..end]);
+    rt.write_all(&text[..end])
 }
 
 // Whether the bytes from one place to another hold zeros, those that there are.
 fn zeros(bytes: &[u8], from: usize, to: usize) -> bool {
-    let mut i = from;
-    while i < to {
+    for i in from..to {
         if bytes.len() <= i {
             return true;
         }
         if bytes[i] != 0 {
             return false;
         }
-        i += 1;
     }
     true
 }
 
 // An image, or the word for that of a fresh state: behind its header it holds zeros.
-fn print_image(image: [u8; IMAGE_LENGTH]) {
+fn print_image(rt: &impl Print, image: [u8; IMAGE_LENGTH]) -> io::Result<()> {
     let bytes: &[u8] = &image;
     if zeros(bytes, 4, IMAGE_LENGTH) {
-        io::write_all(STDOUT_FILENO, b" fresh");
+        rt.write_all(b" fresh")
     } else {
-        print_hex(bytes);
+        print_hex(rt, bytes)
     }
 }
 
 // The lent bytes before a case, so that a byte written, or not, shows.
 fn fill(lent: &mut [u8]) {
-    let mut i: usize = 0;
-    while i < lent.len() {
+    for i in 0..lent.len() {
         lent[i] = ((i % 256 * 7 + 3) % 256) as u8;
-        i += 1;
     }
 }
 
@@ -160,10 +158,8 @@ fn words_of(bytes: &[u8]) -> Words
 {
     let count = bytes.len() / 4 % 16384;
     let mut all = [0u32; 16384];
-    let mut i: usize = 0;
-    while i < count {
+    for i in 0..count {
         all[i] = little_endian::u32_at(bytes, 4 * i);
-        i += 1;
     }
     Words { count, all }
 }
@@ -171,11 +167,8 @@ fn words_of(bytes: &[u8]) -> Words
 // The same words back into bytes.
 fn put_words(words: [u32; 16384], bytes: &mut [u8]) {
     let count = bytes.len() / 4 % 16384;
-    let mut i: usize = 0;
-    while i < count {
-        let word = words[i];
-        little_endian::put_u32(bytes, 4 * i, word);
-        i += 1;
+    for i in 0..count {
+        little_endian::put_u32(bytes, 4 * i, words[i]);
     }
 }
 
@@ -271,10 +264,8 @@ fn record_or_none(bytes: &[u8], i: usize) -> Retirement {
 
 fn records_of(bytes: &[u8]) -> [Retirement; 64] {
     let mut all = [record_or_none(bytes, 0); 64];
-    let mut i: usize = 0;
-    while i < 64 {
+    for i in 0..64 {
         all[i] = record_or_none(bytes, i);
-        i += 1;
     }
     all
 }
@@ -413,25 +404,33 @@ fn run(
 }
 
 // The line of a case. An image written has no next state.
-fn print_line(what: u8, done: Done, lent: &[u8], answers: &[u8], reasons: &[u8]) {
+fn print_line(
+    rt: &impl Print,
+    what: u8,
+    done: Done,
+    lent: &[u8],
+    answers: &[u8],
+    reasons: &[u8],
+) -> io::Result<()> {
     let ran = done.ran;
     let image = done.image;
-    print_name(what);
-    print_ran(ran);
-    print_hex(lent);
-    print_hex(answers);
-    print_hex(reasons);
+    print_name(rt, what)?;
+    print_ran(rt, ran)?;
+    print_hex(rt, lent)?;
+    print_hex(rt, answers)?;
+    print_hex(rt, reasons)?;
     if what == 3 {
-        put(b' ');
-        put(b'-');
+        put(rt, b' ')?;
+        put(rt, b'-')?;
     } else {
-        print_image(image);
+        print_image(rt, image)?;
     }
-    put(b'\n');
+    put(rt, b'\n')
 }
 
 // One case, on what it gives and lends.
 fn answer(
+    rt: &impl Print,
     what: u8,
     bytes: &[u8],
     lent: &mut [u8],
@@ -439,25 +438,27 @@ fn answer(
     reasons: &mut [u8],
     timing: Oep060Timing,
     number: u32,
-) {
+) -> io::Result<()> {
     fill(lent);
     fill(answers);
     fill(reasons);
     let done = run(what, bytes, lent, answers, reasons, timing, number);
-    print_line(what, done, lent, answers, reasons);
+    print_line(rt, what, done, lent, answers, reasons)
 }
 
 // A word of its own if one of the 16 bytes beyond the room, which hold zeros, was written.
-fn print_spilled(buffer: &[u8], room: usize)
+fn print_spilled(rt: &impl Print, buffer: &[u8], room: usize) -> io::Result<()>
     requires { room ≤ 65535 }
 {
     if !zeros(buffer, room, room + 16) {
-        io::write_all(STDOUT_FILENO, b"spilled\n");
+        rt.write_all(b"spilled\n")?;
     }
+    Ok(())
 }
 
 // One case, with a buffer for each run that it lends.
 fn lend(
+    rt: &impl Print,
     what: u8,
     room: usize,
     second: usize,
@@ -465,16 +466,17 @@ fn lend(
     bytes: &[u8],
     timing: Oep060Timing,
     number: u32,
-)
+) -> io::Result<()>
     requires { (room ≤ 65535) × (second ≤ 65535) × (third ≤ 65535) }
 {
-    let mut buffer = io::large_buffer();
-    let mut other = io::large_buffer();
-    let mut last = io::large_buffer();
+    let mut buffer = large_buffer();
+    let mut other = large_buffer();
+    let mut last = large_buffer();
     let lent: &mut [u8] = &mut buffer;
     let answers: &mut [u8] = &mut other;
     let reasons: &mut [u8] = &mut last;
     answer(
+        rt,
         what,
         bytes,
         &mut lent[..room],
@@ -482,10 +484,10 @@ fn lend(
         &mut reasons[..third],
         timing,
         number,
-    );
-    print_spilled(lent, room);
-    print_spilled(answers, second);
-    print_spilled(reasons, third);
+    )?;
+    print_spilled(rt, lent, room)?;
+    print_spilled(rt, answers, second)?;
+    print_spilled(rt, reasons, third)
 }
 
 // How many bytes a case lends for costs or an image: a batch's places are of four, and an image read or a break lends
@@ -521,7 +523,7 @@ fn reasons_room(what: u8, room: u16) -> usize
 }
 
 // A case of which all came: the image that it starts from is as long as is given, and then come its bytes.
-fn split(h: &[u8], given: usize, rest: &[u8])
+fn split(rt: &impl Print, h: &[u8], given: usize, rest: &[u8]) -> io::Result<()>
     requires { (length h.now ≡ 12) × (given ≤ length rest.now) }
 {
     let what = h[0];
@@ -531,38 +533,46 @@ fn split(h: &[u8], given: usize, rest: &[u8])
     // Bit 0 says that the state is dirty; the rest is the number of the profile.
     let timing = start(&rest[..given], h[1] % 2 == 1);
     let number = (h[1] / 2) as u32;
-    lend(what, room, second, third, &rest[given..], timing, number);
+    lend(
+        rt,
+        what,
+        room,
+        second,
+        third,
+        &rest[given..],
+        timing,
+        number,
+    )
 }
 
 // Reads what follows a header and answers the case; answers whether all came.
-fn read_rest(h: &[u8]) -> bool
+fn read_rest(rt: &(impl io::Input + Print), h: &[u8]) -> io::Result<bool>
     requires { length h.now ≡ 12 }
 {
     let given = little_endian::u16_at(h, 4) as usize;
     let all = given + little_endian::u16_at(h, 6) as usize;
     let mut rest = space();
-    let came = read_part(&mut rest, all);
+    let came = read_part(rt, &mut rest, all);
     if came {
-        split(h, given, &rest[..all]);
+        split(rt, h, given, &rest[..all])?;
     }
-    came
+    Ok(came)
 }
 
 // Reads one case and answers it; answers whether there was one.
-fn one_case() -> bool {
+fn one_case(rt: &(impl io::Input + Print)) -> io::Result<bool> {
     let mut h = [0u8; 12];
-    if read_part(&mut h, 12) {
-        return read_rest(&h);
+    if read_part(rt, &mut h, 12) {
+        return read_rest(rt, &h);
     }
-    false
+    Ok(false)
 }
 
-fn main() {
-    let mut i: usize = 0;
-    while i < MOST_CASES {
-        if !one_case() {
-            return;
+fn main(rt: HostRuntime) -> io::Result<()> {
+    for _ in 0..MOST_CASES {
+        if !one_case(&rt)? {
+            return Ok(());
         }
-        i += 1;
     }
+    Ok(())
 }

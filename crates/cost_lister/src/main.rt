@@ -6,22 +6,16 @@
 #![tactic(auto)]
 
 use input::{Input, Word};
-use libc::{STDERR_FILENO, STDOUT_FILENO};
 use listing::LISTING_ROOM;
 use profile::Profile;
 use state::Oep060Timing;
+use std::io;
 
-fn list(profile: Profile) {
+fn list(rt: &(impl io::Input + Print + Eprint), profile: Profile) -> io::Result<()> {
     // One byte more than is taken, so that longer input is seen to be longer.
     let mut bytes = [0u8; 65537];
-    let came = input::read_input(&mut bytes);
-    match came {
-        Input::Unreadable => {
-            io::write_all(
-                STDERR_FILENO,
-                b"cost_lister: standard input cannot be read\n",
-            );
-        }
+    match input::read_input(rt, &mut bytes) {
+        Input::Unreadable => eprintln!(rt; "cost_lister: standard input cannot be read"),
         Input::Taken(n) => {
             let mut text = [0u8; LISTING_ROOM];
             let listed = listing::list_trace(
@@ -31,20 +25,14 @@ fn list(profile: Profile) {
                 profile,
             );
             let len = listed.len;
-            io::write_all(STDOUT_FILENO, &text[..len]);
+            rt.write_all(&text[..len])
         }
     }
 }
 
-fn main() {
-    let word = input::read_word();
-    match word {
-        Word::Named(profile) => list(profile),
-        Word::Unknown => {
-            io::write_all(
-                STDERR_FILENO,
-                b"cost_lister: the profile is crate or mended\n",
-            );
-        }
+fn main(rt: HostRuntime) -> io::Result<()> {
+    match input::read_word(&rt) {
+        Word::Named(profile) => list(&rt, profile),
+        Word::Unknown => eprintln!(rt; "cost_lister: the profile is crate or mended"),
     }
 }

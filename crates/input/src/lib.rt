@@ -9,7 +9,8 @@ mod words;
 ghost use Rattle.std.specs.Prelude.{length};
 ghost use Rattle.input.specs.Input.{Within};
 
-use libc::STDIN_FILENO;
+use std::io;
+use std::io::Read;
 pub use words::{Request, Word, profile_named, read_word, read_words};
 
 #[derive(Clone, Copy)]
@@ -20,20 +21,17 @@ pub enum Input {
 }
 
 // Reads until the lent bytes are full or the input ends. A read that fails is told apart from the end.
-pub fn read_input(buf: &mut [u8]) -> Input
+pub fn read_input(rt: &impl io::Input, buf: &mut [u8]) -> Input
     ensures { Within (length buf.new) result }
 {
+    let mut stdin = rt.reader();
     let mut done: usize = 0;
     while done < buf.len() {
-        let got = libc::read(STDIN_FILENO, &mut buf[done..]);
-        if got < 0 {
-            return Input::Unreadable;
+        match stdin.read(&mut buf[done..]) {
+            Ok(0) => return Input::Taken(done),
+            Ok(more) => done += more,
+            Err(_) => return Input::Unreadable,
         }
-        let more = io::count(got, &buf[done..]);
-        if more == 0 {
-            return Input::Taken(done);
-        }
-        done += more;
     }
     Input::Taken(done)
 }

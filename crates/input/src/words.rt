@@ -1,10 +1,12 @@
 // The words by which a program is told what to do: `crate` or `mended`, or none, which is the crate's profile; and of
 // `why` also `full`, before or behind it.
-ghost use Rattle.std.specs.Prelude.{◌≡◌};
+ghost use Rattle.std.specs.Prelude.{◌≡◌, ◌≤◌, length};
 ghost use Rattle.input.specs.Words.{Tells, Names, chosen_of};
 ghost use Rattle.input.specs.Words.{Says, asks_by, one_asks, both_ask, asks_of};
 
 use profile::Profile;
+use std::env::FillError;
+use std::rt::Env;
 
 // What a word names.
 #[derive(Clone, Copy)]
@@ -31,17 +33,7 @@ pub enum Request {
 fn is_word(word: &[u8], name: &[u8]) -> bool
     ensures { Tells result word.now name.now }
 {
-    if word.len() != name.len() {
-        return false;
-    }
-    let mut i: usize = 0;
-    while i < word.len() {
-        if word[i] != name[i] {
-            return false;
-        }
-        i += 1;
-    }
-    true
+    word == name
 }
 
 // The profile that a word names.
@@ -71,11 +63,29 @@ fn chosen(given: usize, named: Word) -> Word
     named
 }
 
-// The word behind the program's name. One that does not fit the buffer is no profile's.
-pub fn read_word() -> Word {
+// How many arguments there are, the program's own name among them.
+fn argument_count(rt: &impl Env) -> usize {
     let mut word = [0u8; 16];
-    let n = os::arg(1, &mut word);
-    chosen(os::arg_count(), profile_named(&word[..n]))
+    for i in 0..usize::MAX {
+        if let Err(FillError::NotPresent) = rt.arg(i, &mut word) {
+            return i;
+        }
+    }
+    usize::MAX
+}
+
+// How much of the buffer an argument fills: nothing where it does not fit, or is not there.
+fn argument(rt: &impl Env, i: usize, buf: &mut [u8]) -> usize
+    ensures { result ≤ length buf.new }
+{
+    rt.arg(i, buf).unwrap_or(0)
+}
+
+// The word behind the program's name. One that does not fit the buffer is no profile's.
+pub fn read_word(rt: &impl Env) -> Word {
+    let mut word = [0u8; 16];
+    let n = argument(rt, 1, &mut word);
+    chosen(argument_count(rt), profile_named(&word[..n]))
 }
 
 fn word_says(word: &[u8]) -> Said
@@ -138,13 +148,13 @@ fn asked(given: usize, s: Said, u: Said) -> Request
 }
 
 // The words behind the name of `why`. One that does not fit its buffer is none of them.
-pub fn read_words() -> Request {
+pub fn read_words(rt: &impl Env) -> Request {
     let mut first = [0u8; 16];
-    let n = os::arg(1, &mut first);
+    let n = argument(rt, 1, &mut first);
     let mut second = [0u8; 16];
-    let m = os::arg(2, &mut second);
+    let m = argument(rt, 2, &mut second);
     asked(
-        os::arg_count(),
+        argument_count(rt),
         word_says(&first[..n]),
         word_says(&second[..m]),
     )

@@ -1,5 +1,6 @@
--- What the manual says of the valid forms lies within the mended profile's masks: of a head what it writes, of a follower that can pass the dispatch test
--- what it reads and writes. Tested at every opcode of the seven groups that have a form, computed.
+-- What the manual says of the valid forms lies within the mended profile's masks: of a head what it writes, of a
+-- follower that can pass the dispatch test what it reads and writes. Tested at every opcode of the seven groups that have
+-- a form, computed.
 -- Assumes nothing.
 use Prim.Native.Nat.{ℕ, ◌+◌, ◌*◌, ◌<◌}
 use native.Mathlib.Omega.{arith}

@@ -5,10 +5,10 @@
 // `record` and `records` make the retirements; `run` calls `batch`, which hands each to the step by value (`step`).
 #![tactic(auto)]
 
-use libc::STDOUT_FILENO;
 use profile::Profile;
 use refusals::Ran;
 use state::{Oep060Timing, Retirement};
+use std::io;
 use step::Chosen;
 use window::RawCount;
 
@@ -33,10 +33,8 @@ fn record(i: usize) -> Retirement {
 
 fn records() -> [Retirement; 64] {
     let mut all = [record(0); 64];
-    let mut i: usize = 0;
-    while i < 64 {
+    for i in 0..64 {
         all[i] = record(i);
-        i += 1;
     }
     all
 }
@@ -53,33 +51,31 @@ fn run(
     batch::run_batch_of_64(all, 64, costs, answers, chosen)
 }
 
-fn print_line(total: u64, cost: u32, answer: u8) {
-    io::print_decimal(STDOUT_FILENO, total);
-    io::write_all(STDOUT_FILENO, b" ");
-    io::print_decimal(STDOUT_FILENO, cost as u64);
-    io::write_all(STDOUT_FILENO, b" ");
-    io::print_decimal(STDOUT_FILENO, answer as u64);
-    io::write_all(STDOUT_FILENO, b"\n");
+fn print_line(rt: &impl Print, total: u64, cost: u32, answer: u8) -> io::Result<()> {
+    println!(rt; "{total} {cost} {answer}")
 }
 
 // What was stored last is printed too: else the compiler could leave the stores out.
-fn print_last(total: u64, costs: &[u32; 64], answers: &[u8; 64]) {
-    print_line(total, costs[63], answers[63]);
+fn print_last(
+    rt: &impl Print,
+    total: u64,
+    costs: &[u32; 64],
+    answers: &[u8; 64],
+) -> io::Result<()> {
+    print_line(rt, total, costs[63], answers[63])
 }
 
 // The total is that of all runs, so that another number of runs shows; 256,000 costs below 2^32 do not wrap.
-fn main() {
+fn main(rt: HostRuntime) -> io::Result<()> {
     let all = records();
     let mut costs = [0u32; 64];
     let mut answers = [0u8; 64];
     let mut timing = Oep060Timing::fresh();
     let mut total: u64 = 0;
-    let mut i: usize = 0;
-    while i < RUNS {
+    for _ in 0..RUNS {
         let ran = run(all, &mut costs, &mut answers, timing);
-        total = std::num::wrapping_add_u64(total, ran.total);
+        total = total.wrapping_add(ran.total);
         timing = ran.timing;
-        i += 1;
     }
-    print_last(total, &costs, &answers);
+    print_last(&rt, total, &costs, &answers)
 }

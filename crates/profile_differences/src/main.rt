@@ -7,8 +7,8 @@
 ghost use Rattle.std.specs.Prelude.{◌≡◌};
 ghost use Rattle.profile_differences.specs.Difference.{differ_of, difference_line, lines_of};
 
-use libc::STDOUT_FILENO;
 use profile::Profile;
+use std::io;
 use window::Instruction;
 
 fn differs(own: Instruction, mended: Instruction) -> bool
@@ -49,12 +49,12 @@ enum Told {
     Unwritable,
 }
 
-fn tell(op: u16) -> Told {
+fn tell(rt: &impl Print, op: u16) -> Told {
     let own = profile::instruction_060(Profile::Crate, op);
     let mended = profile::instruction_060(Profile::Mended, op);
     if differs(own, mended) {
         let text = line(op, own, mended);
-        if io::write_all(STDOUT_FILENO, &text) {
+        if rt.write_all(&text).is_ok() {
             return Told::Different;
         }
         return Told::Unwritable;
@@ -73,22 +73,18 @@ fn lines(told: Told) -> u32
     }
 }
 
-fn print_count(count: u32) {
-    io::write_all(STDOUT_FILENO, b"differ ");
-    io::print_decimal(STDOUT_FILENO, count as u64);
-    io::write_all(STDOUT_FILENO, b"\n");
+fn print_count(rt: &impl Print, count: u32) -> io::Result<()> {
+    println!(rt; "differ {count}")
 }
 
-fn main() {
+fn main(rt: HostRuntime) -> io::Result<()> {
     let mut count: u32 = 0;
-    let mut op: u32 = 0;
-    while op < 65536 {
-        let told = tell(op as u16);
+    for op in 0..65536u32 {
+        let told = tell(&rt, op as u16);
         if let Told::Unwritable = told {
-            return;
+            return Ok(());
         }
         count += lines(told);
-        op += 1;
     }
-    print_count(count);
+    print_count(&rt, count)
 }

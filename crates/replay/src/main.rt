@@ -6,32 +6,26 @@
 #![tactic(auto)]
 
 use input::{Input, Word};
-use libc::{STDERR_FILENO, STDOUT_FILENO};
 use profile::Profile;
 use replaying::REPLAY_ROOM;
+use std::io;
 
-fn replay(profile: Profile) {
+fn replay(rt: &(impl io::Input + Print + Eprint), profile: Profile) -> io::Result<()> {
     // The longer image, the longest trace, and one byte more, so that longer input is seen to be longer.
     let mut bytes = [0u8; 66831];
-    let came = input::read_input(&mut bytes);
-    match came {
-        Input::Unreadable => {
-            io::write_all(STDERR_FILENO, b"replay: standard input cannot be read\n");
-        }
+    match input::read_input(rt, &mut bytes) {
+        Input::Unreadable => eprintln!(rt; "replay: standard input cannot be read"),
         Input::Taken(n) => {
             let mut text = [0u8; REPLAY_ROOM];
             let len = replaying::replay_text(&bytes[..n], &mut text, profile);
-            io::write_all(STDOUT_FILENO, &text[..len]);
+            rt.write_all(&text[..len])
         }
     }
 }
 
-fn main() {
-    let word = input::read_word();
-    match word {
-        Word::Named(profile) => replay(profile),
-        Word::Unknown => {
-            io::write_all(STDERR_FILENO, b"replay: the profile is crate or mended\n");
-        }
+fn main(rt: HostRuntime) -> io::Result<()> {
+    match input::read_word(&rt) {
+        Word::Named(profile) => replay(&rt, profile),
+        Word::Unknown => eprintln!(rt; "replay: the profile is crate or mended"),
     }
 }

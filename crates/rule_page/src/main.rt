@@ -3,11 +3,11 @@
 // `rule_text` makes the page from the table.
 #![tactic(auto)]
 
-use libc::STDOUT_FILENO;
 use rule_text::PAGE_ROOM;
+use std::io;
 
-fn main() {
+fn main(rt: HostRuntime) -> io::Result<()> {
     let mut text = [0u8; PAGE_ROOM];
     let len = rule_text::put_page(&mut text);
-    io::write_all(STDOUT_FILENO, &text[..len]);
+    rt.write_all(&text[..len])
 }

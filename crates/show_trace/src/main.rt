@@ -4,24 +4,18 @@
 #![tactic(auto)]
 
 use input::Input;
-use libc::{STDERR_FILENO, STDOUT_FILENO};
 use showing::SHOWING_ROOM;
+use std::io;
 
-fn main() {
+fn main(rt: HostRuntime) -> io::Result<()> {
     // One byte more than is taken, so that longer input is seen to be longer.
     let mut bytes = [0u8; 65537];
-    let came = input::read_input(&mut bytes);
-    match came {
-        Input::Unreadable => {
-            io::write_all(
-                STDERR_FILENO,
-                b"show_trace: standard input cannot be read\n",
-            );
-        }
+    match input::read_input(&rt, &mut bytes) {
+        Input::Unreadable => eprintln!(rt; "show_trace: standard input cannot be read"),
         Input::Taken(n) => {
             let mut text = [0u8; SHOWING_ROOM];
             let len = showing::show_trace(&bytes[..n], &mut text);
-            io::write_all(STDOUT_FILENO, &text[..len]);
+            rt.write_all(&text[..len])
         }
     }
 }

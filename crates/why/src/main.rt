@@ -8,18 +8,19 @@
 
 use explaining::WHY_ROOM;
 use input::{Input, Request};
-use libc::{STDERR_FILENO, STDOUT_FILENO};
 use profile::Profile;
 use state::Oep060Timing;
+use std::io;
 
-fn explain(full: bool, profile: Profile) {
+fn explain(
+    rt: &(impl io::Input + Print + Eprint),
+    full: bool,
+    profile: Profile,
+) -> io::Result<()> {
     // One byte more than is taken, so that longer input is seen to be longer.
     let mut bytes = [0u8; 65537];
-    let came = input::read_input(&mut bytes);
-    match came {
-        Input::Unreadable => {
-            io::write_all(STDERR_FILENO, b"why: standard input cannot be read\n");
-        }
+    match input::read_input(rt, &mut bytes) {
+        Input::Unreadable => eprintln!(rt; "why: standard input cannot be read"),
         Input::Taken(n) => {
             let mut text = [0u8; WHY_ROOM];
             let len = explaining::why_text(
@@ -29,17 +30,14 @@ fn explain(full: bool, profile: Profile) {
                 profile,
                 full,
             );
-            io::write_all(STDOUT_FILENO, &text[..len]);
+            rt.write_all(&text[..len])
         }
     }
 }
 
-fn main() {
-    let asked = input::read_words();
-    match asked {
-        Request::Asks(full, profile) => explain(full, profile),
-        Request::Unclear => {
-            io::write_all(STDERR_FILENO, b"why: the words are [full] [crate|mended]\n");
-        }
+fn main(rt: HostRuntime) -> io::Result<()> {
+    match input::read_words(&rt) {
+        Request::Asks(full, profile) => explain(&rt, full, profile),
+        Request::Unclear => eprintln!(rt; "why: the words are [full] [crate|mended]"),
     }
 }

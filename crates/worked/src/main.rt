@@ -4,25 +4,24 @@
 // The fallback is that of `window`; RTS is one step by value (`step`) from a fresh state.
 #![tactic(auto)]
 
-use libc::STDOUT_FILENO;
 use profile::Profile;
 use state::{Oep060Timing, Retirement};
+use std::io;
 use step::Chosen;
 use window::{Controls, RawCount};
 
 // A line: what was asked, and the clocks.
-fn show(asked: &[u8], clocks: u32) {
-    io::write_all(STDOUT_FILENO, asked);
-    io::print_decimal(STDOUT_FILENO, clocks as u64);
-    io::write_all(STDOUT_FILENO, b"\n");
+fn show(rt: &impl Print, asked: &[u8], clocks: u32) -> io::Result<()> {
+    rt.write_all(asked)?;
+    println!(rt; "{clocks}")
 }
 
-fn fallback(asked: &[u8], raw: i32) {
-    show(asked, window::fallback_cycles(RawCount(raw)).0);
+fn fallback(rt: &impl Print, asked: &[u8], raw: i32) -> io::Result<()> {
+    show(rt, asked, window::fallback_cycles(RawCount(raw)).0)
 }
 
 // One retirement of RTS that flowed, from a fresh state, its fetch not cached.
-fn flowed(asked: &[u8], raw: i32) {
+fn flowed(rt: &impl Print, asked: &[u8], raw: i32) -> io::Result<()> {
     let controls = Controls {
         flowed: true,
         cached: false,
@@ -42,17 +41,17 @@ fn flowed(asked: &[u8], raw: i32) {
         profile: Profile::Crate,
     };
     let stepped = step::cycles_060(chosen, rts);
-    show(asked, stepped.cost.0);
+    show(rt, asked, stepped.cost.0)
 }
 
-fn main() {
-    fallback(b"fallback -2147483648 ", -2147483648);
-    fallback(b"fallback -1 ", -1);
-    fallback(b"fallback 7 ", 7);
-    fallback(b"fallback 8 ", 8);
-    fallback(b"fallback 11 ", 11);
-    fallback(b"fallback 12 ", 12);
-    fallback(b"fallback 2147483647 ", 2147483647);
-    flowed(b"flowed 20 ", 20);
-    flowed(b"flowed 24 ", 24);
+fn main(rt: HostRuntime) -> io::Result<()> {
+    fallback(&rt, b"fallback -2147483648 ", -2147483648)?;
+    fallback(&rt, b"fallback -1 ", -1)?;
+    fallback(&rt, b"fallback 7 ", 7)?;
+    fallback(&rt, b"fallback 8 ", 8)?;
+    fallback(&rt, b"fallback 11 ", 11)?;
+    fallback(&rt, b"fallback 12 ", 12)?;
+    fallback(&rt, b"fallback 2147483647 ", 2147483647)?;
+    flowed(&rt, b"flowed 20 ", 20)?;
+    flowed(&rt, b"flowed 24 ", 24)
 }

@@ -16,12 +16,12 @@ or_comm false false = refl
 either : (w : ℕ) → (has w VARIABLE || has w UNCLASSIFIED) ≡ has w 0x2200
 either w = or_comm (has w VARIABLE) (has w UNCLASSIFIED) ∙ sym (meets_either w 12 2 0x0200 (omega arith))
 
-plain-is : (w : ℕ) (raw : ℤ) {b : Bool} → has w 0x2200 ≡ b → plain_of w raw ≡ cond b (fallback_of raw) (clocks_of w)
+plain_is : (w : ℕ) (raw : ℤ) {b : Bool} → has w 0x2200 ≡ b → plain_of w raw ≡ cond b (fallback_of raw) (clocks_of w)
 unfolding plain_of
-plain-is w raw e = ap (λ (b : Bool). cond b (fallback_of raw) (clocks_of w)) (either w ∙ e)
+plain_is w raw e = ap (λ (b : Bool). cond b (fallback_of raw) (clocks_of w)) (either w ∙ e)
 
 pub returns-then-has : goal.returns-then-has
-returns-then-has c = c.fallback_cycles.ensures ∙ ap clocks (sym (plain-is c.args.word.0 c.args.raw.0 (sym c.has.ensures ∙ c.if-has.true)))
+returns-then-has c = c.fallback_cycles.ensures ∙ ap clocks (sym (plain_is c.args.word.0 c.args.raw.0 (sym c.has.ensures ∙ c.if-has.true)))
 
 pub returns : goal.returns
-returns c = c.cycles.ensures ∙ ap clocks (sym (plain-is c.args.word.0 c.args.raw.0 (sym c.has.ensures ∙ c.if-has.false)))
+returns c = c.cycles.ensures ∙ ap clocks (sym (plain_is c.args.word.0 c.args.raw.0 (sym c.has.ensures ∙ c.if-has.false)))

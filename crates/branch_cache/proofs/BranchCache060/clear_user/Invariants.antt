@@ -15,12 +15,12 @@ use Rattle.bits.proofs.Filling.{filled, filled_at, filled_put, filled_kept, fill
 use Rattle.branch_cache.proofs.BranchCache060.clear_user.Given as goal
 
 -- the bytes as they shall be
-abbrev pub cleared-bytes : BranchCache060 → List ℕ
-cleared-bytes c₀ = map clear_user_byte_of c₀.state
+abbrev pub cleared_bytes : BranchCache060 → List ℕ
+cleared_bytes c₀ = map clear_user_byte_of c₀.state
 
 -- the cache after i turns
 abbrev pub after : BranchCache060 → ℕ → BranchCache060
-after c₀ i = record { tags = c₀.tags; state = filled i (cleared-bytes c₀) c₀.state }
+after c₀ i = record { tags = c₀.tags; state = filled i (cleared_bytes c₀) c₀.state }
 
 abbrev pub invariant-loop-i : goal.invariant-loop-i
 invariant-loop-i l = (l.i ≤ 256) × (l.self ≡ after l.initial.self l.i)

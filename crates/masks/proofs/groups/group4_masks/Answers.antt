@@ -30,8 +30,8 @@ below op h = rw (lt-ltb (op / 256 % 16) 7 (omega (arith, and_high op 4 8))) (lt-
 above : (op : ℕ) → 1792 ≤ bit_and op 3840 → eqb (bit_and op 3840) 2560 ≡ (ltb (op / 256 % 16) 7 || matches tst op)
 above op h = rw (le-ltb (op / 256 % 16) 7 (omega (arith, and_high op 4 8))) (masked tst op)
 
-one-operand : (c : Joined-op-lt1792) → c.if-op-lt1792.value ≡ (ltb (c.args.op / 256 % 16) 7 || matches tst c.args.op)
-one-operand c =
+one_operand : (c : Joined-op-lt1792) → c.if-op-lt1792.value ≡ (ltb (c.args.op / 256 % 16) 7 || matches tst c.args.op)
+one_operand c =
     (elim c.if-op-lt1792.branch [ then-op-lt1792 k ↦ k.value-is ∙ below c.args.op k.if-op-lt1792.true | else-op-lt1792 k ↦ k.value-is ∙ above c.args.op k.if-op-lt1792.false ])
 
 pub returns-then-op-eq448 : goal.returns-then-op-eq448
@@ -47,9 +47,9 @@ returns-after-mode-eq0 c =
     let def : c.if-mode-eq0.operand_def ≡ mask_of_regs (data_operand (mode_of c.args.op) (reg_of c.args.op)) =
     (elim c.if-mode-eq0.branch [ then-mode-eq0 k ↦ k.operand_def-is ∙ mask_where (eqb (mode_of c.args.op) 0) dn (eq-eqb (mode_of c.args.op) 0 (sym c.mode_of-mode.ensures ∙ k.if-mode-eq0.true)) is | else-mode-eq0 k ↦ k.operand_def-is ∙ mask_unless (eqb (mode_of c.args.op) 0) dn (ne_eqb (mode_of c.args.op) 0 (λ q. k.if-mode-eq0.false (c.mode_of-mode.ensures ∙ q))) ]) in
     pair_and_defs (operand_sets (mode_of c.args.op) (reg_of c.args.op)) (data_operand (mode_of c.args.op) (reg_of c.args.op)) c.operand_masks-ea-then-op-eq2560.ensures def
-    ∙ ap mask_pair (found (skip (rows c.args.op) (miss lea c.args.op c.if-op-eq448.false)) (sym (one-operand (goal.at.returns-after-mode-eq0 c).Joined-op-lt1792) ∙ c.if-op-eq2560.true) refl)
+    ∙ ap mask_pair (found (skip (rows c.args.op) (miss lea c.args.op c.if-op-eq448.false)) (sym (one_operand (goal.at.returns-after-mode-eq0 c).Joined-op-lt1792) ∙ c.if-op-eq2560.true) refl)
 
 pub returns-else-op-eq2560 : goal.returns-else-op-eq2560
 returns-else-op-eq2560 c =
     c.full.ensures
-    ∙ ap mask_pair (last (skip (skip (rows c.args.op) (miss lea c.args.op c.if-op-eq448.false)) (sym (one-operand (goal.at.returns-else-op-eq2560 c).Joined-op-lt1792) ∙ c.if-op-eq2560.false)) refl)
+    ∙ ap mask_pair (last (skip (skip (rows c.args.op) (miss lea c.args.op c.if-op-eq448.false)) (sym (one_operand (goal.at.returns-else-op-eq2560 c).Joined-op-lt1792) ∙ c.if-op-eq2560.false)) refl)

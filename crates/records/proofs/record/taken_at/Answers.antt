@@ -13,22 +13,22 @@ use Rattle.records.specs.Record.{event_at}
 use Rattle.records.proofs.record.taken_at.Goals as goal
 
 -- what is told of the kind is told of both
-of-kind : (s : List ℕ) (at : ℕ) (kind : Kind) {k : Kind} → kind ≡ k → {e : Event} {next : ℕ}
+of_kind : (s : List ℕ) (at : ℕ) (kind : Kind) {k : Kind} → kind ≡ k → {e : Event} {next : ℕ}
     → e ≡ event_at s at k → next ≡ next_place at k
     → Got e next ≡ Got (event_at s at kind) (next_place at kind)
-of-kind s at kind told q n = ap₂ Got q n ∙ sym (ap (λ (k : Kind). Got (event_at s at k) (next_place at k)) told)
+of_kind s at kind told q n = ap₂ Got q n ∙ sym (ap (λ (k : Kind). Got (event_at s at k) (next_place at k)) told)
 
 pub retirement_at-requires : goal.retirement_at-requires
 retirement_at-requires c = omega (arith, c.requires, ap payload_length c.in-Retirement.is)
 
 pub returns-in-Retirement : goal.returns-in-Retirement
-returns-in-Retirement c = of-kind _ _ _ c.in-Retirement.is (ap Retired c.retirement_at.ensures) (omega arith)
+returns-in-Retirement c = of_kind _ _ _ c.in-Retirement.is (ap Retired c.retirement_at.ensures) (omega arith)
 
 pub returns-in-Break : goal.returns-in-Break
-returns-in-Break c = of-kind _ _ _ c.in-Break.is refl (omega arith)
+returns-in-Break c = of_kind _ _ _ c.in-Break.is refl (omega arith)
 
 pub returns-in-ClearAll : goal.returns-in-ClearAll
-returns-in-ClearAll c = of-kind _ _ _ c.in-ClearAll.is refl (omega arith)
+returns-in-ClearAll c = of_kind _ _ _ c.in-ClearAll.is refl (omega arith)
 
 pub returns-in-ClearUser : goal.returns-in-ClearUser
-returns-in-ClearUser c = of-kind _ _ _ c.in-ClearUser.is refl (omega arith)
+returns-in-ClearUser c = of_kind _ _ _ c.in-ClearUser.is refl (omega arith)
