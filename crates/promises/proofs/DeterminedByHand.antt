@@ -1,4 +1,4 @@
--- The functions that are proved by a walk by hand. The relation that is written of each allows one answer at each input. It is the function's promise: of `break_in_place` and `run_batch_of_64` the promise as the checker reads it; of `run_batch` and `break_060_pipeline`, of which the checker exports no reading, the clause that the walk is proved to meet.
+-- Four functions whose promise is written by hand once more. The relation that is written of each allows one answer at each input, and is the function's promise: of `break_in_place` and `run_batch_of_64` the promise as the checker reads it; of `run_batch` and `break_060_pipeline` the clause of the contract, which the code is proved to meet. Of these two, too, the promise as the checker reads it allows one answer.
 -- Assumes nothing.
 use mathlib.Core.Path.{◌≡◌, refl, sym, ◌∙◌}
 use seplogic.Ra.Ura.{Ura}
@@ -53,7 +53,7 @@ module _ (κs : Lifetimes.Lfts 2) where
   pub batch_run_batch_of_64_determined : Determined (λ r x. batch_outcome r (runs x.1.1.0.now x.1.1.1.0.now)) (batch-run-batch-of-64.Post κs)
   batch_run_batch_of_64_determined i r r' x x' p q = p ∙ sym q
 
--- the two that lend more: the checker reads them too
+-- what the checker reads of the other two allows one answer too
 module _ (κs : Lifetimes.Lfts 1) where
   pub window_break_060_pipeline_determined : Determined (λ r x. x.0.now) (window-break-reads.Post κs)
   window_break_060_pipeline_determined i r r' x x' p q = p ∙ sym q
