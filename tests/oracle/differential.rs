@@ -1132,8 +1132,7 @@ fn one_of(n: usize, cases: Vec<Case>) -> impl Iterator<Item = Case> {
 }
 
 /// The cases that the gate replays: traces and images, then batches and breaks, heads, rooms, those of other numbers,
-/// runs that say why, opcodes that share a slot, and at last random runs that say why; every reason is given by either
-/// profile.
+/// and at last runs that say why, which give every reason by either profile.
 pub fn sample() -> Vec<Case> {
     let mut all = limits();
     all.extend(one_of(2, cases(&mut Random::new(68060), 1, |_| 0)));
@@ -1145,7 +1144,6 @@ pub fn sample() -> Vec<Case> {
     all.extend(profiles());
     all.extend(reasons());
     all.extend(reason_rooms());
-    all.extend(shared_slots(&[0x0000], 6));
     all.extend(one_of(2, whys(&mut Random::new(68060), 1, any_number)));
     assert_eq!(missing_reasons(&all), None);
     all

@@ -27,7 +27,7 @@ use Rattle.reasons.specs.declared.reason.Reason.TheVariants.{Register}
 use Rattle.reasons.specs.Reasons.{reason_number}
 
 abbrev pub predicted_word : Answer → String
-predicted_word NotConsulted = "not_consulted_lem"
+predicted_word NotConsulted = "not-consulted"
 predicted_word Miss = "miss"
 predicted_word PredictedNotTaken = "predicted-not-taken"
 predicted_word PredictedTaken = "predicted-taken"

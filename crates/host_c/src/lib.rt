@@ -55,6 +55,26 @@ pub extern "C" fn timing_060_retire_at(
     host::timing_060_retire_at(tags, state, window, profile, op, flags, ppc, pc, raw)
 }
 
+// The step in place under its own name, which the archive has had beside the host's.
+#[unsafe(no_mangle)]
+pub extern "C" fn retire_at(
+    tags: &mut [u32; 256],
+    state: &mut [u8; 256],
+    window: &mut WindowNumbers,
+    profile: u32,
+    op: u16,
+    flags: u16,
+    ppc: u32,
+    pc: u32,
+    raw: i32,
+) -> u64
+    ensures { paid_by result (lent tags.new state.new window.new)
+        ≡ retire_at_of (profile_at profile) (lent tags.old state.old window.old)
+        (retirement_of op flags ppc pc (raw_count raw)) }
+{
+    in_place::retire_at(tags, state, window, profile, op, flags, ppc, pc, raw)
+}
+
 // The same retirement in place, and why it costs what it costs: above the clocks 8 bits for what the cache predicted,
 // and above them the reason, 0 to 13.
 #[unsafe(no_mangle)]

@@ -23,7 +23,7 @@ pub struct Turn {
 }
 
 // Any record: what stands at `at`, its event in place. Where there is none, nothing is done.
-fn run_record(
+pub fn run_record(
     trace: &[u8],
     tags: &mut [u32; 256],
     state: &mut [u8; 256],
