@@ -33,7 +33,17 @@ pub enum Request {
 fn is_word(word: &[u8], name: &[u8]) -> bool
     ensures { Tells result word.now name.now }
 {
-    word == name
+    if word.len() != name.len() {
+        return false;
+    }
+    let mut i: usize = 0;
+    while i < word.len() {
+        if word[i] != name[i] {
+            return false;
+        }
+        i += 1;
+    }
+    true
 }
 
 // The profile that a word names.
