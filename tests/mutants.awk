@@ -43,9 +43,11 @@ function scan(s, i,    n, k, c, before, rest, w, alt) {
     for (; i <= length(s); i += n) {
         rest = substr(s, i); c = substr(s, i, 1); before = substr(s, i - 1, 1); n = 1
         if (rest ~ /^\/\//) return
-        if (match(rest, /^b"(\\.|[^"\\])*"/) || match(rest, /^b'(\\.|[^'\\])*'/)) {
-            n = RLENGTH; w = substr(rest, 1, n)
-            change(i, w, substr(w, 1, 2) (w ~ /^b.\\/ ? "\\t" substr(w, 5) : "~" substr(w, 4)))
+        if (match(rest, /^b?"(\\.|[^"\\])*"/) || match(rest, /^b'(\\.|[^'\\])*'/)) {
+            n = RLENGTH; w = substr(rest, 1, n); k = c == "b" ? 2 : 1
+            # not what stands in braces, a variable that is printed
+            if (n > k + 1 && (k == 2 || substr(w, 2, 1) != "{"))
+                change(i, w, substr(w, 1, k) (substr(w, k + 1, 1) == "\\" ? "\\t" substr(w, k + 3) : "~" substr(w, k + 2)))
         } else if (match(rest, /^[A-Za-z_][A-Za-z0-9_]*(::[A-Z][A-Za-z0-9_]*)?/)) {
             n = RLENGTH; w = substr(rest, 1, n)
             if (w in instead) change(i, w, instead[w])
@@ -54,7 +56,7 @@ function scan(s, i,    n, k, c, before, rest, w, alt) {
         } else if (match(rest, /^(0x[0-9A-Fa-f]+|[0-9]+)/)) {
             n = RLENGTH; w = substr(rest, 1, n)
             if (before != "." || substr(s, i - 2, 2) == "..") change(i, w, plus_one(w)) # not .0, a field
-        } else if (rest ~ /^![A-Za-z(]/) {
+        } else if (rest ~ /^![A-Za-z(]/ && before !~ /[A-Za-z0-9_]/) { # not a macro's
             change(i, substr(rest, 1, 2), substr(rest, 2, 1))
         } else if (match(rest, /^[-+*\/%&|<>=!]+/)) {
             n = RLENGTH; w = substr(rest, 1, n)

@@ -90,10 +90,10 @@ interrupted() { # STATUS
 }
 
 # Runs a command that uses target/ or an out/, alone among all scripts of this repository, with scratch files in a
-# folder of its own. Ended by INT, TERM or HUP, it leaves nothing behind. The lock is the kernel's, on the open repository folder:
-# whoever holds it and dies has let go of it. Killed outright, this script leaves a job; a warden, in a session of its
-# own, has read the job's number from the pipe `alive`, hears the end of the pipe, whose other end only this script
-# holds, and ends the job.
+# folder of its own. Ended by INT, TERM or HUP, it leaves nothing behind. The lock is the kernel's, on the open
+# repository folder: whoever holds it and dies has let go of it. Killed outright, this script leaves a job; a warden, in
+# a session of its own, has read the job's number from the pipe `alive`, hears the end of the pipe, whose other end only
+# this script holds, and ends the job.
 guarded() { # COMMAND..
     if [ "${TIMING_060_HELD:-}" = "$top" ]; then # by a script that called this one
         "$@"

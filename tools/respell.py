@@ -1,9 +1,11 @@
 #!/usr/bin/env python3
-"""tools/respell.py [--list] [FOLDER]: brings the repository's own definitions and lemmas to the spelling of today's Rattle, once, right
-after the kit's port.py: words in snake case, facts (what is a `Type`) as types. docs/PORT.md says what it was for.
+"""tools/respell.py [--list] [FOLDER]: brings the repository's own definitions and lemmas to the spelling of today's
+Rattle, once, right after the kit's port.py: words in snake case, facts (what is a `Type`) as types. docs/PORT.md says
+what it was for.
 
-It goes by whole names that the files of specs/ and proofs/ declare, in .antt files, in the clauses and comments of .rt files, in the
-edits and in the pages. Functions of src/, exported names, strings, inputs and outputs are left. --list prints the names and changes nothing.
+It goes by whole names that the files of specs/ and proofs/ declare, in .antt files, in the clauses and comments of .rt
+files, in the edits and in the pages. Functions of src/, exported names, strings, inputs and outputs are left. --list
+prints the names and changes nothing.
 """
 import collections
 import os
