@@ -23,6 +23,9 @@ GIVEN = re.compile(r"^(invariant|measure|returns|.*-(requires|init|preserved|sma
 LEMMAS = {("crates/batch", "runs_by"), ("crates/explaining", "one_more"), ("crates/image", "window_bytes"), ("crates/promises", "same_next"), ("crates/promises", "still_read")}
 
 
+KITS = re.compile(r"(?m)^use ([\w.·]+)\.\{([^}]*)\}")
+
+
 def snake(name):
     name = re.sub(r"(Of|On)(\d)", r"\1_\2", name)
     name = re.sub(r"([a-z0-9])([A-Z])", r"\1_\2", name)
@@ -101,6 +104,7 @@ def main(argv):
     top = next((a for a in argv if not a.startswith("--")), ".")
     found = declared(top)
     new = table(found)
+    crates = set(os.listdir(os.path.join(top, "crates")))
     # names that would fall together with another declared name
     back = collections.defaultdict(set)
     for a, b in new.items():
@@ -126,10 +130,12 @@ def main(argv):
         if own and p.endswith(".antt"):
             text = by(own)(text)
         if p.endswith(".antt"):
+            # names that the file has from the kit, which a lemma of ours may share
+            kit = {x.strip().split(" as ")[0] for m in KITS.finditer(text) for x in m[2].split(",") if m[1].split(".")[0] != "Rattle" or m[1].split(".")[1] not in crates}
             lines = []
             for line in text.split("\n"):
                 comment = line.lstrip().startswith("--")
-                lines.append(by(camel if comment else new)(line))
+                lines.append(code_only(line, by(camel if comment else {a: b for a, b in new.items() if a not in kit})))
             if "/specs/" in p:
                 lines = realigned(text.split("\n"), lines)
             to = "\n".join(lines)

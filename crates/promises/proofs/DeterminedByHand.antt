@@ -1,4 +1,4 @@
--- The functions that are proved by a walk by hand. The relation that is written of each allows one answer at each input. It is the function's promise: of `break_in_place` and `run_batch_of_64` the promise as the checker reads it; of `run_batch` and `break_060_pipeline`, of which the checker exports no reading, the clause that the walk is proved to meet.
+-- Four functions whose promise is written by hand once more. The relation that is written of each allows one answer at each input, and is the function's promise: of `break_in_place` and `run_batch_of_64` the promise as the checker reads it; of `run_batch` and `break_060_pipeline` the clause of the contract, which the code is proved to meet. Of these two, too, the promise as the checker reads it allows one answer.
 -- Assumes nothing.
 use mathlib.Core.Path.{◌≡◌, refl, sym, ◌∙◌}
 use seplogic.Ra.Ura.{Ura}
@@ -6,6 +6,7 @@ use base.Logic.{SProp, emp}
 use prog.Memory.{Memory}
 use prog.Model.{Model}
 use prog.Routine.{Routine}
+use prog.Wired.{Wired}
 use types.Logic.{Logic}
 use contract.Lifetimes
 use contract.Monad.{Fun, fact}
@@ -17,7 +18,9 @@ use Rattle.refusals.specs.Runs.{runs}
 use Rattle.batch.specs.Batch.{batch_outcome}
 use Rattle.window.proofs.break_in_place.Reads as window-break-in-place
 use Rattle.window.specs.contracts.break_060_pipeline as window-break
+use Rattle.window.proofs.break_060_pipeline.Reads as window-break-reads
 use Rattle.batch.specs.contracts.run_batch as batch-run-batch
+use Rattle.batch.proofs.run_batch.Reads as batch-run-batch-reads
 use Rattle.batch.proofs.run_batch.Met as batch-run-batch-met
 use Rattle.batch.proofs.run_batch.Symbol as batch-run-batch-code
 use Rattle.batch.proofs.run_batch_of_64.Reads as batch-run-batch-of-64
@@ -50,6 +53,15 @@ module _ (κs : Lifetimes.Lfts 2) where
   pub batch_run_batch_of_64_determined : Determined (λ r x. batch_outcome r (runs x.1.1.0.now x.1.1.1.0.now)) (batch-run-batch-of-64.Post κs)
   batch_run_batch_of_64_determined i r r' x x' p q = p ∙ sym q
 
+-- what the checker reads of the other two allows one answer too
+module _ (κs : Lifetimes.Lfts 1) where
+  pub window_break_060_pipeline_determined : Determined (λ r x. x.0.now) (window-break-reads.Post κs)
+  window_break_060_pipeline_determined i r r' x x' p q = p ∙ sym q
+
+module _ (κs : Lifetimes.Lfts 3) where
+  pub batch_run_batch_determined : Determined (λ r x. batch_outcome r (runs x.1.0.now x.1.1.0.now)) (batch-run-batch-reads.Post κs)
+  batch_run_batch_determined i r r' x x' p q = p ∙ sym q
+
 -- the clause of `break_060_pipeline` is the relation, in any model
 module _ (κs : Lifetimes.Lfts 1) {M : Type 1} {𝓤 : Ura M} (𝓛 : Logic 𝓤) (mem : Memory → SProp 𝓤) (run : Routine → Fun 𝓤) where
   pub window_break_is : (a : Args window-break.signature κs) (r : Res window-break.signature κs) (e : AtExit window-break.ended κs)
@@ -75,5 +87,6 @@ module _ {M : Type 1} {𝓤 : Ura M} (𝓛 : Logic 𝓤) where
   }
 
 pub batch_run_batch_meets : {M : Type 1} {𝓤 : Ura M} (𝓛 : Logic 𝓤) (𝓜 : Model 𝓤 𝓛.H) (𝓡 : Running 𝓤 𝓛.H 𝓜)
-    → Meets 𝓛 batch-run-batch.signature (𝓡.run batch-run-batch-code.routine) (by_relation 𝓛)
-batch_run_batch_meets {𝓤 = 𝓤} 𝓛 𝓜 𝓡 = batch-run-batch-met.met 𝓤 𝓛 𝓜 𝓡
+    → Wired 𝓡.env batch-run-batch-code.code
+    → Meets 𝓛 batch-run-batch.signature (𝓡.run (𝓡.env batch-run-batch-code.name)) (by_relation 𝓛)
+batch_run_batch_meets {𝓤 = 𝓤} 𝓛 𝓜 𝓡 wired = batch-run-batch-met.met 𝓤 𝓛 𝓜 𝓡 wired

@@ -1,6 +1,6 @@
 -- Every row of every group has a sound entry, whatever the opcode: one computed test. What a sound entry says, its word says.
 -- Assumes nothing.
-use Prim.Native.Nat.{ℕ, ◌+◌, ◌*◌, ◌/◌, ◌%◌, ◌^◌, ◌<◌, ◌≤◌}
+use Prim.Native.Nat.{ℕ, ◌+◌, ◌/◌, ◌%◌, ◌^◌, ◌<◌, ◌≤◌}
 use mathlib.Core.Path.{◌≡◌, refl, ap, ◌∙◌}
 use mathlib.Core.Bool.{Bool, true, not, ◌||◌}
 use mathlib.Core.List.{List, [], ◌∷◌}
@@ -13,7 +13,7 @@ use Rattle.bits.specs.Words.{num, bit}
 use Rattle.bits.proofs.Bools.{all_of, all_true, not_true, implied}
 use Rattle.bits.proofs.Rows.{first_has}
 use Rattle.bits.proofs.Words.{num_small, num_is, meets_bit}
-use Rattle.class_word.specs.Word.{class_number, word_of, class_of, clocks_of, has, BRANCH, VARIABLE, EA_INDEXED}
+use Rattle.class_word.specs.Word.{class_number, class_of, clocks_of, has, BRANCH, VARIABLE, EA_INDEXED}
 use Rattle.class_word.proofs.Words.{class_small, word_class, word_clocks}
 use Rattle.classifier.specs.Entry.{Entry, access_flags, entry_word}
 use Rattle.classifier.specs.LowGroups.{group0, move, group5, group6, group7}

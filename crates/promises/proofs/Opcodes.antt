@@ -1,12 +1,12 @@
 -- The facts of every opcode, from its entry.
 -- Assumes nothing.
-use Prim.Native.Nat.{ℕ, ◌≤◌}
-use mathlib.Core.Path.{◌≡◌, refl, sym, ap, ◌∙◌}
+use Prim.Native.Nat.{ℕ}
+use mathlib.Core.Path.{◌≡◌, refl, sym, ◌∙◌}
 use mathlib.Core.Bool.{Bool, true, false, ◌&&◌}
 use native.Mathlib.Omega.{arith}
 use lib.Dec.{eqb}
 use borrow.Author.Tests.{eq-eqb}
-use Rattle.class_word.specs.Word.{class_number, class_of, clocks_of, has, VARIABLE, EA_INDEXED}
+use Rattle.class_word.specs.Word.{class_number, class_of, has, VARIABLE, EA_INDEXED}
 use Rattle.classifier.specs.Entry.{Entry, entry_word}
 use Rattle.classifier.specs.Classify.{classify_of, entry_of}
 use Rattle.promises.specs.Opcodes.{Fits, EveryOpcode}

@@ -1,9 +1,9 @@
 -- Demand 3's bounds are reached: MOVEQ into D0 and D1 by turns.
 -- Assumes nothing.
-use mathlib.Core.Path.{◌≡◌, refl, sym, ap, ap₂, ◌∙◌}
-use mathlib.Core.Bool.{Bool, true, false, not, cond}
+use mathlib.Core.Path.{◌≡◌, refl, ap, ap₂, ◌∙◌}
+use mathlib.Core.Bool.{Bool, true, false, not}
 use mathlib.Core.List.{List, [], ◌∷◌}
-use Prim.Native.Nat.{ℕ, zero, suc, ◌+◌, ◌*◌, ◌/◌, ◌≤◌}
+use Prim.Native.Nat.{ℕ, zero, suc, ◌+◌, ◌/◌}
 use native.Mathlib.Omega.{arith}
 use lib.ListN.{length}
 use lib.IntN.{pos}
@@ -12,7 +12,6 @@ use Rattle.window.specs.declared.dispatch.Instruction.{Instruction}
 use Rattle.window.specs.declared.dispatch.Controls.{Controls}
 use Rattle.window.specs.declared.Window.{Window}
 use Rattle.cost.specs.declared.branch.Answer.{Answer}
-use Rattle.cost.specs.Branch.{taken_of}
 use Rattle.cost.specs.Retiring.{Retiring, point_of}
 use Rattle.window.specs.Windows.{shut}
 use Rattle.window.specs.Dispatch.{failing, first_failing, holds, is_simple}

@@ -1,7 +1,7 @@
 -- Document 01, "What the promises must say": "every input determines the result and all lent bytes afterwards, refusals
--- too", of the four functions that are proved by a walk by hand. The promise of each is written here once more, in the
--- words of its `ensures`: a relation between what it is handed, what it returns, and what it was lent to write, as that
--- is afterwards. None of the four asks anything of its caller.
+-- too", of four functions whose promise is written here by hand once more, in the words of its `ensures`: a relation
+-- between what it is handed, what it returns, and what it was lent to write, as that is afterwards. None of the four
+-- asks anything of its caller.
 --
 --   BreakAllows w r w'        ==  `break_060_pipeline`, lent the window w, may leave the window w': the shut one. It
 --                                 returns nothing, which is r

@@ -5,7 +5,7 @@
 --   EveryImage  ==  the facts, each for every state, image and lent bytes
 --
 -- `InRange t` and `Below 256 s` say what the code's types hold always: arrays of 256 elements, numbers that fit, bytes.
-use Rattle.std.specs.Prelude.{ℕ, ◌≤◌, ◌≡◌, Bool, not, ◌&&◌, ◌||◌, List, ◌++◌, eqb, ltb, length, take, drop, replicate}
+use Rattle.std.specs.Prelude.{ℕ, ◌≤◌, ◌≡◌, not, ◌&&◌, ◌||◌, List, ◌++◌, eqb, ltb, length, take, drop, replicate}
 use Rattle.little_endian.specs.Numbers.{Below}
 use Rattle.refusals.specs.declared.Verdict.TheVariants.{Accepted}
 use Rattle.state.specs.declared.Oep060Timing.{Oep060Timing}

@@ -18,7 +18,7 @@
 --   OverPairing  ==  a pair whose follower touches what its head writes
 --   Profiles     ==  what holds of the mended profile beside the crate's
 --   Determined   ==  one answer at each input
---   ByHand       ==  that of the functions which are proved by a walk by hand
+--   ByHand       ==  that of four functions whose promise is written by hand once more
 pub mod Opcodes
 pub mod Rules
 pub mod Worked

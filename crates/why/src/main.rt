@@ -12,11 +12,7 @@ use profile::Profile;
 use state::Oep060Timing;
 use std::io;
 
-fn explain(
-    rt: &(impl io::Input + Print + Eprint),
-    full: bool,
-    profile: Profile,
-) -> io::Result<()> {
+fn explain(rt: &(impl io::Input + Print + Eprint), full: bool, profile: Profile) -> io::Result<()> {
     // One byte more than is taken, so that longer input is seen to be longer.
     let mut bytes = [0u8; 65537];
     match input::read_input(rt, &mut bytes) {
