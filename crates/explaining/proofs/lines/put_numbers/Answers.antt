@@ -1,0 +1,34 @@
+-- `put_numbers`: three numbers and the blanks between them, written one behind the other.
+use Prim.Native.Nat.{ℕ, ◌+◌, ◌≤◌}
+use mathlib.Core.List.{List, [], ◌∷◌}
+use lib.ListN.{length}
+use Rattle.text.specs.Decimal.{decimal_of}
+use Rattle.text.specs.Hex.{hex_of}
+use Rattle.text.specs.Written.{text_of}
+use Rattle.explaining.specs.WhyLines.{numbers_text}
+use Rattle.explaining.proofs.Chain.{Chain, chain_start, chain_next, chain_room, chain_end}
+use Rattle.explaining.proofs.lines.put_numbers.Goals as goal
+
+begun : (lent : List ℕ) (at index op clocks : ℕ) → at + length (numbers_text index op clocks) ≤ length lent
+    → Chain lent at [] (decimal_of index ∷ text_of " " ∷ hex_of op ∷ text_of " " ∷ decimal_of clocks ∷ []) at lent
+unfolding numbers_text
+begun lent at index op clocks h = chain_start _ _ _ h
+
+pub put_decimal-a-requires : goal.put_decimal-a-requires
+put_decimal-a-requires c = chain_room (begun _ _ c.args.index c.args.op c.args.clocks c.requires)
+
+pub put_bytes-b-requires : goal.put_bytes-b-requires
+put_bytes-b-requires c = chain_room (chain_next (begun _ _ c.args.index c.args.op c.args.clocks c.requires) c.put_decimal-a.ensures)
+
+pub put_hex4-c-requires : goal.put_hex4-c-requires
+put_hex4-c-requires c = chain_room (chain_next (chain_next (begun _ _ c.args.index c.args.op c.args.clocks c.requires) c.put_decimal-a.ensures) c.put_bytes-b.ensures)
+
+pub put_bytes-d-requires : goal.put_bytes-d-requires
+put_bytes-d-requires c = chain_room (chain_next (chain_next (chain_next (begun _ _ c.args.index c.args.op c.args.clocks c.requires) c.put_decimal-a.ensures) c.put_bytes-b.ensures) c.put_hex4-c.ensures)
+
+pub put_decimal-requires : goal.put_decimal-requires
+put_decimal-requires c = chain_room (chain_next (chain_next (chain_next (chain_next (begun _ _ c.args.index c.args.op c.args.clocks c.requires) c.put_decimal-a.ensures) c.put_bytes-b.ensures) c.put_hex4-c.ensures) c.put_bytes-d.ensures)
+
+pub returns : goal.returns
+unfolding numbers_text
+returns c = chain_end (chain_next (chain_next (chain_next (chain_next (chain_next (begun _ _ c.args.index c.args.op c.args.clocks c.requires) c.put_decimal-a.ensures) c.put_bytes-b.ensures) c.put_hex4-c.ensures) c.put_bytes-d.ensures) c.put_decimal.ensures)

@@ -1,0 +1,15 @@
+-- `put_registers`: the bits, one behind the other. The measure is what is left of them.
+use Prim.Native.Nat.{ℕ, ◌+◌, ◌-◌, ◌*◌, ◌^◌, ◌≤◌, ◌<◌}
+use mathlib.Core.Path.{◌≡◌, refl, ap}
+use native.Mathlib.Nat.{pow-suc, pow-le-pow_right}
+use native.Mathlib.Numerals.{add-one}
+use native.Mathlib.Omega.{arith}
+use Rattle.rule_text.proofs.Going.{Going, going_start, going_room, going_turn, going_end}
+use Rattle.explaining.specs.Words.{register_text}
+use Rattle.explaining.proofs.registers.put_registers.Given as goal
+
+abbrev pub invariant-loop-n : goal.invariant-loop-n
+invariant-loop-n l = Going (register_text l.mask) 16 l.initial.out l.start l.out l.place l.n × (l.power ≡ 2 ^ l.n)
+
+abbrev pub decreases-loop-n : goal.decreases-loop-n
+decreases-loop-n l = 16 - l.n
