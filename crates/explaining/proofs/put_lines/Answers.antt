@@ -36,18 +36,22 @@ returns-in-Bad c = absurd (going_bad c.loop-e.invariant _ (sym c.read_record-rea
 pub put_line-place-requires : goal.put_line-place-requires
 put_line-place-requires c =
     let got = sym c.read_record-read.ensures ∙ c.in-Got.is in
-    turn_room (lent c.loop-e.tags c.loop-e.state c.loop-e.window) c.loop-e.invariant got c.in-Retired.is c.explain_in_place-x.ensures
+    turn_room (lent c.loop-e.tags c.loop-e.state c.loop-e.window) c.loop-e.invariant got c.in-Retired.is
+    c.explain_in_place-x.ensures
 
 pub count_one-requires : goal.count_one-requires
 count_one-requires c =
     let got = sym c.read_record-read.ensures ∙ c.in-Got.is in
-    turn_count (lent c.loop-e.tags c.loop-e.state c.loop-e.window) c.loop-e.invariant got c.in-Retired.is c.explain_in_place-x.ensures
+    turn_count (lent c.loop-e.tags c.loop-e.state c.loop-e.window) c.loop-e.invariant got c.in-Retired.is
+    c.explain_in_place-x.ensures
 
 pub overflow_add-total : goal.overflow_add-total
 overflow_add-total c =
     let got = sym c.read_record-read.ensures ∙ c.in-Got.is in
     let small : c.explain_in_place-x.result.cost.0 < 2 ^ 32 = search rules in
-    record { fits = turn_sum (lent c.loop-e.tags c.loop-e.state c.loop-e.window) c.loop-e.invariant got c.in-Retired.is c.explain_in_place-x.ensures small }
+    let l = lent c.loop-e.tags c.loop-e.state c.loop-e.window in
+    let fits = turn_sum l c.loop-e.invariant got c.in-Retired.is c.explain_in_place-x.ensures small in
+    record { fits = fits }
 
 pub overflow_add-index : goal.overflow_add-index
 overflow_add-index c = omega (arith, going_index c.loop-e.invariant)
@@ -59,7 +63,8 @@ pub loop-e-preserved-in-Retired : goal.loop-e-preserved-in-Retired
 loop-e-preserved-in-Retired c =
     let got = sym c.read_record-read.ensures ∙ c.in-Got.is in
     let small : c.explain_in_place-x.result.cost.0 < 2 ^ 32 = search rules in
-    turn_line (lent c.loop-e.tags c.loop-e.state c.loop-e.window) c.loop-e.invariant got c.in-Retired.is c.explain_in_place-x.ensures c.put_line-place.ensures c.count_one.ensures small
+    turn_line (lent c.loop-e.tags c.loop-e.state c.loop-e.window) c.loop-e.invariant got c.in-Retired.is
+    c.explain_in_place-x.ensures c.put_line-place.ensures c.count_one.ensures small
 
 pub loop-e-smaller : goal.loop-e-smaller
 loop-e-smaller c = going_nearer c.loop-e.invariant _ _ (sym c.read_record-read.ensures ∙ c.in-Got.is)
@@ -67,4 +72,5 @@ loop-e-smaller c = going_nearer c.loop-e.invariant _ _ (sym c.read_record-read.e
 pub loop-e-preserved : goal.loop-e-preserved
 loop-e-preserved c =
     let got = sym c.read_record-read.ensures ∙ c.in-Got.is in
-    turn_quiet (lent c.loop-e.tags c.loop-e.state c.loop-e.window) c.loop-e.invariant got c.in-Broken.is c.event_at.ensures.0
+    turn_quiet (lent c.loop-e.tags c.loop-e.state c.loop-e.window) c.loop-e.invariant got c.in-Broken.is
+    c.event_at.ensures.0

@@ -31,13 +31,15 @@ pub put_lines-put-requires-clause-trace_in_bounds : goal.put_lines-put-requires-
 put_lines-put-requires-clause-trace_in_bounds c =
     let so = seen_lent c.args.timing c.seen-read.ensures c.put_window.ensures in
     room c.args.profile (read_trace c.args.trace.now) so c.args.full _ _
-    (lines_room c.args.full c.args.profile c.args.timing (read_trace c.args.trace.now) c.requires.fits_answers _ c.requires.trace_in_bounds c.put_header-a.ensures)
+    (lines_room c.args.full c.args.profile c.args.timing (read_trace c.args.trace.now) c.requires.fits_answers _
+    c.requires.trace_in_bounds c.put_header-a.ensures)
 
 pub put_total-b-requires : goal.put_total-b-requires
 put_total-b-requires c =
     let so = seen_lent c.args.timing c.seen-read.ensures c.put_window.ensures in
     let l = lined c.args.profile (read_trace c.args.trace.now) so c.args.full _ _ c.put_lines-put.ensures in
-    total_room c.args.full c.args.profile c.args.timing (read_trace c.args.trace.now) c.requires.fits_answers _ c.requires.trace_in_bounds c.put_header-a.ensures l
+    total_room c.args.full c.args.profile c.args.timing (read_trace c.args.trace.now) c.requires.fits_answers _
+    c.requires.trace_in_bounds c.put_header-a.ensures l
 
 pub put_counts-requires : goal.put_counts-requires
 put_counts-requires c =
@@ -45,7 +47,8 @@ put_counts-requires c =
     let l = lined c.args.profile (read_trace c.args.trace.now) so c.args.full _ _ c.put_lines-put.ensures in
     let n : c.put_lines-put.result.count < 2 ^ 64 = search rules in
     let s : c.put_lines-put.result.total < 2 ^ 64 = search rules in
-    counts_room c.args.full c.args.profile c.args.timing (read_trace c.args.trace.now) c.requires.fits_answers _ c.requires.trace_in_bounds c.put_header-a.ensures l n s c.put_total-b.ensures
+    counts_room c.args.full c.args.profile c.args.timing (read_trace c.args.trace.now) c.requires.fits_answers _
+    c.requires.trace_in_bounds c.put_header-a.ensures l n s c.put_total-b.ensures
 
 pub returns : goal.returns
 returns c =
@@ -53,4 +56,5 @@ returns c =
     let l = lined c.args.profile (read_trace c.args.trace.now) so c.args.full _ _ c.put_lines-put.ensures in
     let n : c.put_lines-put.result.count < 2 ^ 64 = search rules in
     let s : c.put_lines-put.result.total < 2 ^ 64 = search rules in
-    table_whole c.args.full c.args.profile c.args.timing (read_trace c.args.trace.now) c.requires.fits_answers _ c.requires.trace_in_bounds c.put_header-a.ensures l n s c.put_total-b.ensures c.put_counts.ensures
+    table_whole c.args.full c.args.profile c.args.timing (read_trace c.args.trace.now) c.requires.fits_answers _
+    c.requires.trace_in_bounds c.put_header-a.ensures l n s c.put_total-b.ensures c.put_counts.ensures

@@ -11,16 +11,21 @@ put_table-requires c =
     let v = sym c.judge_short-verdict.ensures ∙ c.in-Accepted.is in
     record {
       fits_answers = why_few c.args.full c.args.profile c.args.trace.now c.args.timing v;
-      trace_in_bounds = omega (arith, why_room c.args.full c.args.profile c.args.trace.now c.args.timing v, c.well_formed);
+      trace_in_bounds =
+          omega (arith, why_room c.args.full c.args.profile c.args.trace.now c.args.timing v, c.well_formed);
     }
 
 pub returns-in-Refused : goal.returns-in-Refused
 returns-in-Refused c =
-    let said = why_refused c.args.full c.args.profile c.args.trace.now c.args.timing (sym c.judge_short-verdict.ensures ∙ c.in-Refused.is) in
+    let said =
+    why_refused c.args.full c.args.profile c.args.trace.now c.args.timing
+    (sym c.judge_short-verdict.ensures ∙ c.in-Refused.is) in
     let e = rw (← said) at c.put_refusal.ensures in
     record {
       text_after = e;
-      upper_bound = within c.args.text.now (why_of c.args.full c.args.profile c.args.trace.now c.args.timing) e c.put_refusal.auto.out;
+      upper_bound =
+          within c.args.text.now (why_of c.args.full c.args.profile c.args.trace.now c.args.timing) e
+          c.put_refusal.auto.out;
     }
 
 pub returns-in-Accepted : goal.returns-in-Accepted
@@ -29,5 +34,7 @@ returns-in-Accepted c =
     let e = rw (why_whole c.args.full c.args.profile c.args.trace.now c.args.timing v) at c.put_table.ensures in
     record {
       text_after = e;
-      upper_bound = within c.args.text.now (why_of c.args.full c.args.profile c.args.trace.now c.args.timing) e c.put_table.auto.out;
+      upper_bound =
+          within c.args.text.now (why_of c.args.full c.args.profile c.args.trace.now c.args.timing) e
+          c.put_table.auto.out;
     }

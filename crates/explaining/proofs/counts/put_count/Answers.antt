@@ -10,7 +10,8 @@ use Rattle.explaining.specs.Inner.{word_at, count_text}
 use Rattle.explaining.proofs.Chain.{joined, Chain, chain_of, chain_next, chain_room, chain_text}
 use Rattle.explaining.proofs.counts.put_count.Goals as goal
 
-in_parts : (ns : List ℕ) (n : ℕ) → count_text ns n ≡ joined [] (word_at n ∷ text_of " " ∷ decimal_of (get_or ns n 0) ∷ newline ∷ [])
+in_parts : (ns : List ℕ) (n : ℕ) → count_text ns n
+    ≡ joined [] (word_at n ∷ text_of " " ∷ decimal_of (get_or ns n 0) ∷ newline ∷ [])
 unfolding count_text count_line word_at
 in_parts ns n = refl
 
@@ -25,13 +26,31 @@ put_reason-a-requires c = record {
 }
 
 pub put_bytes-b-requires : goal.put_bytes-b-requires
-put_bytes-b-requires c = chain_room (chain_next (begun _ _ c.args.counts.now c.args.n c.requires.n_in_bounds) c.put_reason-a.ensures)
+put_bytes-b-requires c =
+    let w = begun _ _ c.args.counts.now c.args.n c.requires.n_in_bounds in
+    let a = chain_next w c.put_reason-a.ensures in
+    chain_room a
 
 pub put_decimal-c-requires : goal.put_decimal-c-requires
-put_decimal-c-requires c = chain_room (chain_next (chain_next (begun _ _ c.args.counts.now c.args.n c.requires.n_in_bounds) c.put_reason-a.ensures) c.put_bytes-b.ensures)
+put_decimal-c-requires c =
+    let w = begun _ _ c.args.counts.now c.args.n c.requires.n_in_bounds in
+    let a = chain_next w c.put_reason-a.ensures in
+    let b = chain_next a c.put_bytes-b.ensures in
+    chain_room b
 
 pub put_bytes-requires : goal.put_bytes-requires
-put_bytes-requires c = chain_room (chain_next (chain_next (chain_next (begun _ _ c.args.counts.now c.args.n c.requires.n_in_bounds) c.put_reason-a.ensures) c.put_bytes-b.ensures) c.put_decimal-c.ensures)
+put_bytes-requires c =
+    let w = begun _ _ c.args.counts.now c.args.n c.requires.n_in_bounds in
+    let a = chain_next w c.put_reason-a.ensures in
+    let b = chain_next a c.put_bytes-b.ensures in
+    let d = chain_next b c.put_decimal-c.ensures in
+    chain_room d
 
 pub returns : goal.returns
-returns c = chain_text (in_parts _ _) (chain_next (chain_next (chain_next (chain_next (begun _ _ c.args.counts.now c.args.n c.requires.n_in_bounds) c.put_reason-a.ensures) c.put_bytes-b.ensures) c.put_decimal-c.ensures) c.put_bytes.ensures)
+returns c =
+    let w = begun _ _ c.args.counts.now c.args.n c.requires.n_in_bounds in
+    let a = chain_next w c.put_reason-a.ensures in
+    let b = chain_next a c.put_bytes-b.ensures in
+    let d = chain_next b c.put_decimal-c.ensures in
+    let e = chain_next d c.put_bytes.ensures in
+    chain_text (in_parts _ _) e

@@ -1,7 +1,6 @@
 -- `put_each`: the reasons, one behind the other. The measure is what is left of them.
 use Prim.Native.Nat.{◌-◌}
-use native.Mathlib.Omega.{arith}
-use Rattle.rule_text.proofs.Going.{Going, going_start, going_room, going_turn, going_end}
+use Rattle.rule_text.proofs.Going.{Going}
 use Rattle.explaining.specs.Inner.{count_text}
 use Rattle.explaining.proofs.counts.put_each.Given as goal
 

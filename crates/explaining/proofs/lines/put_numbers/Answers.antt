@@ -18,17 +18,42 @@ pub put_decimal-a-requires : goal.put_decimal-a-requires
 put_decimal-a-requires c = chain_room (begun _ _ c.args.index c.args.op c.args.clocks c.requires)
 
 pub put_bytes-b-requires : goal.put_bytes-b-requires
-put_bytes-b-requires c = chain_room (chain_next (begun _ _ c.args.index c.args.op c.args.clocks c.requires) c.put_decimal-a.ensures)
+put_bytes-b-requires c =
+    let w = begun _ _ c.args.index c.args.op c.args.clocks c.requires in
+    let a = chain_next w c.put_decimal-a.ensures in
+    chain_room a
 
 pub put_hex4-c-requires : goal.put_hex4-c-requires
-put_hex4-c-requires c = chain_room (chain_next (chain_next (begun _ _ c.args.index c.args.op c.args.clocks c.requires) c.put_decimal-a.ensures) c.put_bytes-b.ensures)
+put_hex4-c-requires c =
+    let w = begun _ _ c.args.index c.args.op c.args.clocks c.requires in
+    let a = chain_next w c.put_decimal-a.ensures in
+    let b = chain_next a c.put_bytes-b.ensures in
+    chain_room b
 
 pub put_bytes-d-requires : goal.put_bytes-d-requires
-put_bytes-d-requires c = chain_room (chain_next (chain_next (chain_next (begun _ _ c.args.index c.args.op c.args.clocks c.requires) c.put_decimal-a.ensures) c.put_bytes-b.ensures) c.put_hex4-c.ensures)
+put_bytes-d-requires c =
+    let w = begun _ _ c.args.index c.args.op c.args.clocks c.requires in
+    let a = chain_next w c.put_decimal-a.ensures in
+    let b = chain_next a c.put_bytes-b.ensures in
+    let d = chain_next b c.put_hex4-c.ensures in
+    chain_room d
 
 pub put_decimal-requires : goal.put_decimal-requires
-put_decimal-requires c = chain_room (chain_next (chain_next (chain_next (chain_next (begun _ _ c.args.index c.args.op c.args.clocks c.requires) c.put_decimal-a.ensures) c.put_bytes-b.ensures) c.put_hex4-c.ensures) c.put_bytes-d.ensures)
+put_decimal-requires c =
+    let w = begun _ _ c.args.index c.args.op c.args.clocks c.requires in
+    let a = chain_next w c.put_decimal-a.ensures in
+    let b = chain_next a c.put_bytes-b.ensures in
+    let d = chain_next b c.put_hex4-c.ensures in
+    let e = chain_next d c.put_bytes-d.ensures in
+    chain_room e
 
 pub returns : goal.returns
 unfolding numbers_text
-returns c = chain_end (chain_next (chain_next (chain_next (chain_next (chain_next (begun _ _ c.args.index c.args.op c.args.clocks c.requires) c.put_decimal-a.ensures) c.put_bytes-b.ensures) c.put_hex4-c.ensures) c.put_bytes-d.ensures) c.put_decimal.ensures)
+returns c =
+    let w = begun _ _ c.args.index c.args.op c.args.clocks c.requires in
+    let a = chain_next w c.put_decimal-a.ensures in
+    let b = chain_next a c.put_bytes-b.ensures in
+    let d = chain_next b c.put_hex4-c.ensures in
+    let e = chain_next d c.put_bytes-d.ensures in
+    let f = chain_next e c.put_decimal.ensures in
+    chain_end f

@@ -23,10 +23,16 @@ pub nonzero_rem-mask : goal.nonzero_rem-mask
 nonzero_rem-mask c = omega (arith, one-le-pow c.args.n 2 (omega arith), c.requires.power_value)
 
 pub returns-then-mask-power-eq0 : goal.returns-then-mask-power-eq0
-returns-then-mask-power-eq0 c = sym (written_none _ _) ∙ sym (ap (written_of _ _) (no_comma c.args.mask c.args.n c.requires.power_value c.if-mask-power-eq0.true))
+returns-then-mask-power-eq0 c =
+    sym (written_none _ _) ∙ sym
+    (ap (written_of _ _) (no_comma c.args.mask c.args.n c.requires.power_value c.if-mask-power-eq0.true))
 
 pub put_bytes-requires : goal.put_bytes-requires
-put_bytes-requires c = subst (λ (t : List ℕ). c.args.at + length t ≤ length c.args.out.now) (one_comma c.args.mask c.args.n c.requires.power_value c.if-mask-power-eq0.false) c.requires.n_in_bounds
+put_bytes-requires c =
+    subst (λ (t : List ℕ). c.args.at + length t ≤ length c.args.out.now)
+    (one_comma c.args.mask c.args.n c.requires.power_value c.if-mask-power-eq0.false) c.requires.n_in_bounds
 
 pub returns : goal.returns
-returns c = c.put_bytes.ensures ∙ sym (ap (written_of _ _) (one_comma c.args.mask c.args.n c.requires.power_value c.if-mask-power-eq0.false))
+returns c =
+    c.put_bytes.ensures ∙ sym
+    (ap (written_of _ _) (one_comma c.args.mask c.args.n c.requires.power_value c.if-mask-power-eq0.false))

@@ -19,13 +19,25 @@ module _ (x : Reason) (mask : ℕ) {n m : ℕ} (e : n ≡ reason_number x) (f : 
   out_of_way h = simp (ne_eqb (reason_number x) (reason_number Register) (λ q. h (e ∙ q ∙ sym f)))
 
 pub put_registers-requires : goal.put_registers-requires
-put_registers-requires c = subst (λ (t : List ℕ). c.args.at + length t ≤ length c.args.out.now) (in_way c.args.reason c.args.mask c.reason_number-number.ensures c.reason_number-register.ensures c.if-number-register.true) c.requires
+put_registers-requires c =
+    subst (λ (t : List ℕ). c.args.at + length t ≤ length c.args.out.now)
+    (in_way c.args.reason c.args.mask c.reason_number-number.ensures c.reason_number-register.ensures
+    c.if-number-register.true) c.requires
 
 pub returns-then-number-register : goal.returns-then-number-register
-returns-then-number-register c = c.put_registers.ensures ∙ sym (ap (written_of _ _) (in_way c.args.reason c.args.mask c.reason_number-number.ensures c.reason_number-register.ensures c.if-number-register.true))
+returns-then-number-register c =
+    c.put_registers.ensures ∙ sym (ap (written_of _ _)
+    (in_way c.args.reason c.args.mask c.reason_number-number.ensures c.reason_number-register.ensures
+    c.if-number-register.true))
 
 pub put_bytes-requires : goal.put_bytes-requires
-put_bytes-requires c = subst (λ (t : List ℕ). c.args.at + length t ≤ length c.args.out.now) (out_of_way c.args.reason c.args.mask c.reason_number-number.ensures c.reason_number-register.ensures c.if-number-register.false) c.requires
+put_bytes-requires c =
+    subst (λ (t : List ℕ). c.args.at + length t ≤ length c.args.out.now)
+    (out_of_way c.args.reason c.args.mask c.reason_number-number.ensures c.reason_number-register.ensures
+    c.if-number-register.false) c.requires
 
 pub returns : goal.returns
-returns c = c.put_bytes.ensures ∙ sym (ap (written_of _ _) (out_of_way c.args.reason c.args.mask c.reason_number-number.ensures c.reason_number-register.ensures c.if-number-register.false))
+returns c =
+    c.put_bytes.ensures ∙ sym (ap (written_of _ _)
+    (out_of_way c.args.reason c.args.mask c.reason_number-number.ensures c.reason_number-register.ensures
+    c.if-number-register.false))

@@ -30,16 +30,30 @@ pub put_bytes-a-requires : goal.put_bytes-a-requires
 put_bytes-a-requires c = chain_room (low _ _ c.args.n c.requires.n_in_bounds c.if-n-lt8.true)
 
 pub put_decimal-requires : goal.put_decimal-requires
-put_decimal-requires c = chain_room (chain_next (low _ _ c.args.n c.requires.n_in_bounds c.if-n-lt8.true) c.put_bytes-a.ensures)
+put_decimal-requires c =
+    let w = low _ _ c.args.n c.requires.n_in_bounds c.if-n-lt8.true in
+    let a = chain_next w c.put_bytes-a.ensures in
+    chain_room a
 
 pub returns-then-n-lt8 : goal.returns-then-n-lt8
-returns-then-n-lt8 c = chain_text (data_name _ c.if-n-lt8.true) (chain_next (chain_next (low _ _ c.args.n c.requires.n_in_bounds c.if-n-lt8.true) c.put_bytes-a.ensures) c.put_decimal.ensures)
+returns-then-n-lt8 c =
+    let w = low _ _ c.args.n c.requires.n_in_bounds c.if-n-lt8.true in
+    let a = chain_next w c.put_bytes-a.ensures in
+    let b = chain_next a c.put_decimal.ensures in
+    chain_text (data_name _ c.if-n-lt8.true) b
 
 pub put_bytes-b-requires : goal.put_bytes-b-requires
 put_bytes-b-requires c = chain_room (high _ _ c.args.n c.requires.n_in_bounds c.if-n-lt8.false)
 
 pub put_decimal-requires-2 : goal.put_decimal-requires-2
-put_decimal-requires-2 c = chain_room (chain_next (high _ _ c.args.n c.requires.n_in_bounds c.if-n-lt8.false) c.put_bytes-b.ensures)
+put_decimal-requires-2 c =
+    let w = high _ _ c.args.n c.requires.n_in_bounds c.if-n-lt8.false in
+    let a = chain_next w c.put_bytes-b.ensures in
+    chain_room a
 
 pub returns : goal.returns
-returns c = chain_text (address_name _ c.if-n-lt8.false) (chain_next (chain_next (high _ _ c.args.n c.requires.n_in_bounds c.if-n-lt8.false) c.put_bytes-b.ensures) c.put_decimal-2.ensures)
+returns c =
+    let w = high _ _ c.args.n c.requires.n_in_bounds c.if-n-lt8.false in
+    let a = chain_next w c.put_bytes-b.ensures in
+    let b = chain_next a c.put_decimal-2.ensures in
+    chain_text (address_name _ c.if-n-lt8.false) b

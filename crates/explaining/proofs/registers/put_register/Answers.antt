@@ -31,17 +31,28 @@ nonzero_div-mask c = omega (arith, one-le-pow c.args.n 2 (omega arith), c.requir
 pub put_comma-a-requires : goal.put_comma-a-requires
 put_comma-a-requires c = record {
   power_value = c.requires.power_value;
-  n_in_bounds = chain_room (begun _ _ c.args.mask c.args.n c.requires.power_value c.requires.n_in_bounds c.if-mask-power-eq1.true);
+  n_in_bounds =
+      chain_room
+      (begun _ _ c.args.mask c.args.n c.requires.power_value c.requires.n_in_bounds c.if-mask-power-eq1.true);
 }
 
 pub put_name-requires : goal.put_name-requires
 put_name-requires c = record {
   n_bound = c.requires.n_bound;
-  n_in_bounds = chain_room (chain_next (begun _ _ c.args.mask c.args.n c.requires.power_value c.requires.n_in_bounds c.if-mask-power-eq1.true) c.put_comma-a.ensures);
+  n_in_bounds =
+      chain_room
+      (chain_next (begun _ _ c.args.mask c.args.n c.requires.power_value c.requires.n_in_bounds
+      c.if-mask-power-eq1.true) c.put_comma-a.ensures);
 }
 
 pub returns-then-mask-power-eq1 : goal.returns-then-mask-power-eq1
-returns-then-mask-power-eq1 c = chain_text (set_bit c.args.mask c.args.n c.requires.power_value c.if-mask-power-eq1.true) (chain_next (chain_next (begun _ _ c.args.mask c.args.n c.requires.power_value c.requires.n_in_bounds c.if-mask-power-eq1.true) c.put_comma-a.ensures) c.put_name.ensures)
+returns-then-mask-power-eq1 c =
+    let w = begun _ _ c.args.mask c.args.n c.requires.power_value c.requires.n_in_bounds c.if-mask-power-eq1.true in
+    let a = chain_next w c.put_comma-a.ensures in
+    let b = chain_next a c.put_name.ensures in
+    chain_text (set_bit c.args.mask c.args.n c.requires.power_value c.if-mask-power-eq1.true) b
 
 pub returns : goal.returns
-returns c = sym (written_none _ _) ∙ sym (ap (written_of _ _) (clear_bit c.args.mask c.args.n c.requires.power_value c.if-mask-power-eq1.false))
+returns c =
+    sym (written_none _ _) ∙ sym
+    (ap (written_of _ _) (clear_bit c.args.mask c.args.n c.requires.power_value c.if-mask-power-eq1.false))

@@ -1,11 +1,10 @@
 -- `put_registers`: the bits, one behind the other. The measure is what is left of them.
-use Prim.Native.Nat.{ℕ, ◌+◌, ◌-◌, ◌*◌, ◌^◌, ◌≤◌, ◌<◌}
+use Prim.Native.Nat.{ℕ, ◌+◌, ◌*◌, ◌^◌, ◌≤◌, ◌<◌}
 use mathlib.Core.Path.{◌≡◌, refl, ap}
 use native.Mathlib.Nat.{pow-suc, pow-le-pow_right}
 use native.Mathlib.Numerals.{add-one}
 use native.Mathlib.Omega.{arith}
-use Rattle.rule_text.proofs.Going.{Going, going_start, going_room, going_turn, going_end}
-use Rattle.explaining.specs.Words.{register_text}
+use Rattle.rule_text.proofs.Going.{going_start, going_room, going_turn, going_end}
 use Rattle.explaining.proofs.registers.put_registers.Goals as goal
 
 power_small : (n : ℕ) → n < 16 → 2 ^ n ≤ 32768
@@ -28,7 +27,8 @@ pub overflow_mul-power : goal.overflow_mul-power
 overflow_mul-power c = omega (arith, power_small _ c.loop-n-test.true, c.loop-n.invariant.1)
 
 pub loop-n-preserved : goal.loop-n-preserved
-loop-n-preserved c = (going_turn c.loop-n.invariant.0 c.loop-n-test.true c.put_register-place.ensures, power_next _ c.loop-n.invariant.1)
+loop-n-preserved c =
+    (going_turn c.loop-n.invariant.0 c.loop-n-test.true c.put_register-place.ensures, power_next _ c.loop-n.invariant.1)
 
 pub returns : goal.returns
 returns c = going_end c.loop-n.invariant.0 c.loop-n-test.false

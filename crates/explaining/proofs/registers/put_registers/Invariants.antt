@@ -1,10 +1,7 @@
 -- `put_registers`: the bits, one behind the other. The measure is what is left of them.
-use Prim.Native.Nat.{ℕ, ◌+◌, ◌-◌, ◌*◌, ◌^◌, ◌≤◌, ◌<◌}
-use mathlib.Core.Path.{◌≡◌, refl, ap}
-use native.Mathlib.Nat.{pow-suc, pow-le-pow_right}
-use native.Mathlib.Numerals.{add-one}
-use native.Mathlib.Omega.{arith}
-use Rattle.rule_text.proofs.Going.{Going, going_start, going_room, going_turn, going_end}
+use Prim.Native.Nat.{◌-◌, ◌^◌}
+use mathlib.Core.Path.{◌≡◌}
+use Rattle.rule_text.proofs.Going.{Going}
 use Rattle.explaining.specs.Words.{register_text}
 use Rattle.explaining.proofs.registers.put_registers.Given as goal
 

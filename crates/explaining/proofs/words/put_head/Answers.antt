@@ -15,7 +15,8 @@ use Rattle.explaining.proofs.words.put_head.Goals as goal
 abbrev as_head : Bool → Window → List ℕ
 as_head b w = text_of " " ++ cond b (hex_of w.op) dash ++ text_of " " ++ cond b (hex_long_of w.address) dash
 
-open_head : (w : Window) → w.opened ≡ true → head_text w ≡ joined [] (text_of " " ∷ hex_of w.op ∷ text_of " " ∷ hex_long_of w.address ∷ [])
+open_head : (w : Window) → w.opened ≡ true → head_text w
+    ≡ joined [] (text_of " " ∷ hex_of w.op ∷ text_of " " ∷ hex_long_of w.address ∷ [])
 unfolding head_text
 open_head w e = ap (λ (b : Bool). as_head b w) e
 
@@ -31,19 +32,38 @@ pub put_bytes-a-requires : goal.put_bytes-a-requires
 put_bytes-a-requires c = chain_room (begun _ _ c.args.w c.requires c.if-w.true)
 
 pub put_hex4-b-requires : goal.put_hex4-b-requires
-put_hex4-b-requires c = chain_room (chain_next (begun _ _ c.args.w c.requires c.if-w.true) c.put_bytes-a.ensures)
+put_hex4-b-requires c =
+    let w = begun _ _ c.args.w c.requires c.if-w.true in
+    let a = chain_next w c.put_bytes-a.ensures in
+    chain_room a
 
 pub put_bytes-c-requires : goal.put_bytes-c-requires
-put_bytes-c-requires c = chain_room (chain_next (chain_next (begun _ _ c.args.w c.requires c.if-w.true) c.put_bytes-a.ensures) c.put_hex4-b.ensures)
+put_bytes-c-requires c =
+    let w = begun _ _ c.args.w c.requires c.if-w.true in
+    let a = chain_next w c.put_bytes-a.ensures in
+    let b = chain_next a c.put_hex4-b.ensures in
+    chain_room b
 
 pub put_hex8-requires : goal.put_hex8-requires
-put_hex8-requires c = chain_room (chain_next (chain_next (chain_next (begun _ _ c.args.w c.requires c.if-w.true) c.put_bytes-a.ensures) c.put_hex4-b.ensures) c.put_bytes-c.ensures)
+put_hex8-requires c =
+    let w = begun _ _ c.args.w c.requires c.if-w.true in
+    let a = chain_next w c.put_bytes-a.ensures in
+    let b = chain_next a c.put_hex4-b.ensures in
+    let d = chain_next b c.put_bytes-c.ensures in
+    chain_room d
 
 pub returns-then-w : goal.returns-then-w
-returns-then-w c = chain_text (open_head _ c.if-w.true) (chain_next (chain_next (chain_next (chain_next (begun _ _ c.args.w c.requires c.if-w.true) c.put_bytes-a.ensures) c.put_hex4-b.ensures) c.put_bytes-c.ensures) c.put_hex8.ensures)
+returns-then-w c =
+    let w = begun _ _ c.args.w c.requires c.if-w.true in
+    let a = chain_next w c.put_bytes-a.ensures in
+    let b = chain_next a c.put_hex4-b.ensures in
+    let d = chain_next b c.put_bytes-c.ensures in
+    let e = chain_next d c.put_hex8.ensures in
+    chain_text (open_head _ c.if-w.true) e
 
 pub put_bytes-requires : goal.put_bytes-requires
-put_bytes-requires c = subst (λ (t : List ℕ). c.args.at + length t ≤ length c.args.out.now) (shut_head c.args.w c.if-w.false) c.requires
+put_bytes-requires c =
+    subst (λ (t : List ℕ). c.args.at + length t ≤ length c.args.out.now) (shut_head c.args.w c.if-w.false) c.requires
 
 pub returns : goal.returns
 returns c = c.put_bytes.ensures ∙ sym (ap (written_of c.args.out.now c.args.at) (shut_head c.args.w c.if-w.false))

@@ -25,13 +25,16 @@ tested : every_below 14 (λ n. same (column n) (word_at n)) ≡ true
 unfolding word_at
 tested = refl
 
-worded : (n : ℕ) → n < 14 → {l : ℕ} → l ≡ length (word_at n) → take (12 * n + l - 12 * n) (drop (12 * n) words) ≡ word_at n
+worded : (n : ℕ) → n < 14 → {l : ℕ} → l ≡ length (word_at n) → take (12 * n + l - 12 * n) (drop (12 * n) words)
+    ≡ word_at n
 worded n h {l} e =
     let m : 12 * n + l - 12 * n ≡ length (word_at n) = omega (arith, e) in
     ap (λ (k : ℕ). take k (drop (12 * n) words)) m ∙ listed column word_at 14 tested n h
 
 pub slice_bounds-put_bytes-end : goal.slice_bounds-put_bytes-end
-slice_bounds-put_bytes-end c = omega (arith, word_most c.args.number c.requires.number_bound, c.reason_length.ensures, c.requires.number_bound)
+slice_bounds-put_bytes-end c =
+    omega (arith, word_most c.args.number c.requires.number_bound, c.reason_length.ensures, c.requires.number_bound)
 
 pub returns : goal.returns
-returns c = c.put_bytes.ensures ∙ ap (written_of _ _) (worded c.args.number c.requires.number_bound c.reason_length.ensures)
+returns c =
+    c.put_bytes.ensures ∙ ap (written_of _ _) (worded c.args.number c.requires.number_bound c.reason_length.ensures)

@@ -22,4 +22,5 @@ unfolding word_at
 tested = refl
 
 pub returns : goal.returns
-returns c = eqb-true _ _ (each_below 14 (λ n. eqb (get_or lengths n 0) (length (word_at n))) tested c.args.number c.requires)
+returns c =
+    eqb-true _ _ (each_below 14 (λ n. eqb (get_or lengths n 0) (length (word_at n))) tested c.args.number c.requires)

@@ -8,7 +8,8 @@ use Rattle.cost.specs.Retiring.{Point, neither, point_of}
 use Rattle.reasons.specs.Reasons.{branch_reason, reason_by}
 use Rattle.reasons.proofs.reason.reason_of.Goals as goal
 
-point_neither : (i : Instruction) (k : Controls) → has i.word.0 BRANCH ≡ false → k.flowed ≡ false → point_of i k ≡ neither
+point_neither : (i : Instruction) (k : Controls) → has i.word.0 BRANCH ≡ false → k.flowed ≡ false → point_of i k
+    ≡ neither
 unfolding point_of
 point_neither i k e f = rw (e, f)
 
@@ -25,4 +26,6 @@ returns-then-k c = rw (sym c.has.ensures ∙ c.if-has.false, c.if-k.true)
 pub returns : goal.returns
 returns c =
     c.other_reason.ensures
-    ∙ sym (ap (λ (x : Point). reason_by x c.args.i c.args.k c.args.w c.args.answer) (point_neither c.args.i c.args.k (sym c.has.ensures ∙ c.if-has.false) c.if-k.false))
+    ∙ sym
+    (ap (λ (x : Point). reason_by x c.args.i c.args.k c.args.w c.args.answer)
+    (point_neither c.args.i c.args.k (sym c.has.ensures ∙ c.if-has.false) c.if-k.false))
