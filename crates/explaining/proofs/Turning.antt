@@ -2,17 +2,14 @@
 -- Assumes nothing.
 use Prim.Native.Nat.{ℕ, ◌+◌, ◌^◌, ◌≤◌, ◌<◌}
 use mathlib.Core.Path.{◌≡◌, refl, sym, ap, subst, ◌∙◌}
-use mathlib.Core.Logic.{⊎_elim}
+use mathlib.Core.Logic.{◌⊎◌, ⊎_elim}
 use mathlib.Core.Bool.{Bool}
 use mathlib.Core.List.{List, [], ◌∷◌}
 use native.Mathlib.Omega.{arith}
 use lib.ListN.{length, get_or}
-use types.Run.{OneOf}
-use denote.Enum.Declared.{tag_of}
 use Rattle.class_word.specs.declared.Clocks.{Clocks}
 use Rattle.text.specs.Written.{written, written_of}
 use Rattle.profile.specs.declared.Profile.{Profile}
-use Rattle.state.specs.contracts.Event.{the_type}
 use Rattle.state.specs.declared.Retirement.{Retirement}
 use Rattle.state.specs.declared.Event.{Event}
 use Rattle.state.specs.declared.Event.TheVariants.{Retired, Broken, ClearedAll, ClearedUser}
@@ -35,12 +32,14 @@ use Rattle.explaining.proofs.Going.{Going, going_quiet, going_index, going_room,
 held : (t : Oep060Timing) → state_at (lent_of t) ≡ t
 held t = ap (timing_at t.cache.tags t.cache.state) (window_held t.window)
 
--- a break or a clear, by its tag, is no retirement
-no_retirement : (e : Event) → OneOf (1 ∷ 2 ∷ 3 ∷ []) (tag_of the_type e) → count_of (e ∷ []) ≡ 0
-no_retirement (Retired r) h = absurd (⊎_elim (λ z. omega arith) (⊎_elim (λ z. omega arith) (λ z. omega arith)) h)
-no_retirement Broken h = refl
-no_retirement ClearedAll h = refl
-no_retirement ClearedUser h = refl
+-- a break or a clear is no retirement
+abbrev Quiet : Event → Type 0
+Quiet e = (e ≡ Broken) ⊎ ((e ≡ ClearedAll) ⊎ (e ≡ ClearedUser))
+
+no_retirement : (e : Event) → Quiet e → count_of (e ∷ []) ≡ 0
+no_retirement e h =
+    ⊎_elim (λ q. ap (λ (x : Event). count_of (x ∷ [])) q)
+    (⊎_elim (λ q. ap (λ (x : Event). count_of (x ∷ [])) q) (λ q. ap (λ (x : Event). count_of (x ∷ [])) q)) h
 
 quiet_lent : (p : Profile) (l : Lent) (e : Event) → count_of (e ∷ []) ≡ 0 → (paid_for p l e).lent ≡ event_at_of p l e
 quiet_lent p l (Retired r) z = absurd (omega arith)
@@ -50,10 +49,10 @@ quiet_lent p l ClearedUser z = refl
 
 module _ {full : Bool} {p : Profile} {trace out₀ : List ℕ} {start : ℕ} {t₀ : Oep060Timing} {out : List ℕ} {place at k sum : ℕ} {counts : List ℕ} (l : Lent)
     (g : Going full p trace out₀ start t₀ out place at k sum counts (state_at l)) {e : Event} {next : ℕ} (q : read_at trace at ≡ Got e next) where
-  pub turn_quiet : OneOf (1 ∷ 2 ∷ 3 ∷ []) (tag_of the_type e) → {x : Clocks} {a : ℕ} {m : Lent} → paid x a m ≡ paid_for p l e
+  pub turn_quiet : Quiet e → {x : Clocks} {a : ℕ} {m : Lent} → paid x a m ≡ paid_for p l e
       → Going full p trace out₀ start t₀ out place next k sum counts (state_at m)
-  turn_quiet tag h =
-      let none : count_of (e ∷ []) ≡ 0 = no_retirement e tag in
+  turn_quiet silent h =
+      let none : count_of (e ∷ []) ≡ 0 = no_retirement e silent in
       going_quiet g e next q none (ap state_at (ap (λ (y : Paid). y.lent) h ∙ quiet_lent p l e none) ∙ held (after_of p (state_at l) e))
 
   module _ {r : Retirement} (told : e ≡ Retired r) {x : Explained} {m : Lent} (h : explained_at x m ≡ explain_at_of p l r) where

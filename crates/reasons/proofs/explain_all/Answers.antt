@@ -13,6 +13,8 @@ pub returns : goal.returns
 returns c =
     let e =
     c.explain_records-sums.ensures
-    ∙ ap (λ (w : Window). explain_outcome_by c.args.profile (read_trace c.args.trace.now) (runs c.args.costs.now c.args.answers.now) c.args.reasons.now (timing_at c.args.timing.cache.tags c.args.timing.cache.state w))
+    ∙ ap (λ (w : Window).
+    explain_outcome_by c.args.profile (read_trace c.args.trace.now) (runs c.args.costs.now c.args.answers.now)
+    c.args.reasons.now (timing_at c.args.timing.cache.tags c.args.timing.cache.state w))
     (ap window_at c.put_window.ensures ∙ window_held c.args.timing.window) in
     rw (← c.timing_at-last.ensures) at e

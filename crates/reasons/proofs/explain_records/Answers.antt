@@ -20,7 +20,8 @@ use Rattle.reasons.proofs.explain_records.Goals as goal
 pub loop-at-init : goal.loop-at-init
 loop-at-init c =
     let held = seen_held c.args.tags.now c.args.state.now (window_at c.args.window.now) c.see_window.ensures in (
-      going_start _ c.args.trace.now (runs c.args.costs.now c.args.answers.now) _ held c.requires.fits c.requires.fits_answers,
+      going_start _ c.args.trace.now (runs c.args.costs.now c.args.answers.now) _ held c.requires.fits
+          c.requires.fits_answers,
       telling_start _ c.args.trace.now c.args.reasons.now _ held c.requires.fits_answers_2,
     )
 
@@ -29,23 +30,31 @@ overflow_add-total c = record { fits = going_total c.loop-at.invariant.0 c.requi
 
 pub overflow_mul-count : goal.overflow_mul-count
 overflow_mul-count c =
-    let gone = turn_gone (lent c.loop-at.tags c.loop-at.state c.loop-at.window) c.loop-at.invariant.0 (omega arith) c.explain_record-turn.ensures.0 (search rules) in
+    let gone =
+    turn_gone (lent c.loop-at.tags c.loop-at.state c.loop-at.window) c.loop-at.invariant.0 (omega arith)
+    c.explain_record-turn.ensures.0 (search rules) in
     omega (arith, (gone.room c.if-turn-gt0.true).0, c.loop-at.invariant.0.same, c.well_formed)
 
 pub put_u32-requires : goal.put_u32-requires
 put_u32-requires c =
-    let gone = turn_gone (lent c.loop-at.tags c.loop-at.state c.loop-at.window) c.loop-at.invariant.0 (omega arith) c.explain_record-turn.ensures.0 (search rules) in
+    let gone =
+    turn_gone (lent c.loop-at.tags c.loop-at.state c.loop-at.window) c.loop-at.invariant.0 (omega arith)
+    c.explain_record-turn.ensures.0 (search rules) in
     (gone.room c.if-turn-gt0.true).0
 
 pub put_byte-requires : goal.put_byte-requires
 put_byte-requires c =
-    let gone = turn_gone (lent c.loop-at.tags c.loop-at.state c.loop-at.window) c.loop-at.invariant.0 (omega arith) c.explain_record-turn.ensures.0 (search rules) in
+    let gone =
+    turn_gone (lent c.loop-at.tags c.loop-at.state c.loop-at.window) c.loop-at.invariant.0 (omega arith)
+    c.explain_record-turn.ensures.0 (search rules) in
     omega (arith, (gone.room c.if-turn-gt0.true).1)
 
 pub put_byte-requires-then-turn-gt0 : goal.put_byte-requires-then-turn-gt0
 put_byte-requires-then-turn-gt0 c =
     let told = c.explain_record-turn.ensures in
-    let said = turn_said (lent c.loop-at.tags c.loop-at.state c.loop-at.window) c.loop-at.invariant.1 (omega arith) told.0 told.1 in
+    let said =
+    turn_said (lent c.loop-at.tags c.loop-at.state c.loop-at.window) c.loop-at.invariant.1 (omega arith) told.0
+    told.1 in
     omega (arith, said.room c.if-turn-gt0.true)
 
 pub overflow_add-count : goal.overflow_add-count
@@ -55,7 +64,9 @@ overflow_add-count c =
 
 pub loop-at-smaller-then-turn-gt0 : goal.loop-at-smaller-then-turn-gt0
 loop-at-smaller-then-turn-gt0 c =
-    let gone = turn_gone (lent c.loop-at.tags c.loop-at.state c.loop-at.window) c.loop-at.invariant.0 (omega arith) c.explain_record-turn.ensures.0 (search rules) in
+    let gone =
+    turn_gone (lent c.loop-at.tags c.loop-at.state c.loop-at.window) c.loop-at.invariant.0 (omega arith)
+    c.explain_record-turn.ensures.0 (search rules) in
     gone.nearer
 
 pub loop-at-preserved-then-turn-gt0 : goal.loop-at-preserved-then-turn-gt0
@@ -67,16 +78,20 @@ loop-at-preserved-then-turn-gt0 c =
     let i = c.if-turn-gt0.true in (
       rw (
         c.put_u32.ensures,
-        c.put_byte.ensures ∙ set_puts c.loop-at.answers c.loop-at.count c.explain_record-turn.result.answer (gone.room i).1,
+        c.put_byte.ensures ∙ set_puts c.loop-at.answers c.loop-at.count c.explain_record-turn.result.answer
+            (gone.room i).1,
       )
           (gone.paid i),
-      rw (c.put_byte-then-turn-gt0.ensures ∙ set_puts c.loop-at.reasons c.loop-at.count c.explain_record-turn.result.reason (said.room i))
+      rw (c.put_byte-then-turn-gt0.ensures
+          ∙ set_puts c.loop-at.reasons c.loop-at.count c.explain_record-turn.result.reason (said.room i))
           (said.one i),
     )
 
 pub loop-at-smaller : goal.loop-at-smaller
 loop-at-smaller c =
-    let gone = turn_gone (lent c.loop-at.tags c.loop-at.state c.loop-at.window) c.loop-at.invariant.0 (omega arith) c.explain_record-turn.ensures.0 (search rules) in
+    let gone =
+    turn_gone (lent c.loop-at.tags c.loop-at.state c.loop-at.window) c.loop-at.invariant.0 (omega arith)
+    c.explain_record-turn.ensures.0 (search rules) in
     gone.nearer
 
 pub loop-at-preserved : goal.loop-at-preserved
@@ -93,5 +108,7 @@ returns c =
     let end = read_end c.args.trace.now c.loop-at.at (omega arith) in
     let u = seen_start c.args.tags.now c.args.state.now (window_at c.args.window.now) c.see_window.ensures in
     ap₂ explain_outcome
-    (going_end c.loop-at.invariant.0 end ∙ outcome_seen c.args.profile (read_trace c.args.trace.now) (runs c.args.costs.now c.args.answers.now) t u)
-    (telling_end c.loop-at.invariant.1 end ∙ reasons_seen c.args.profile (read_trace c.args.trace.now) c.args.reasons.now t u)
+    (going_end c.loop-at.invariant.0 end
+    ∙ outcome_seen c.args.profile (read_trace c.args.trace.now) (runs c.args.costs.now c.args.answers.now) t u)
+    (telling_end c.loop-at.invariant.1 end
+    ∙ reasons_seen c.args.profile (read_trace c.args.trace.now) c.args.reasons.now t u)

@@ -16,7 +16,8 @@ pub returns-in-Retired : goal.returns-in-Retired
 returns-in-Retired c =
     let l = lent c.args.tags.now c.args.state.now c.args.window.now in
     by_event c.args.profile l c.args.next c.in-Retired.is
-    (retired_turn c.args.profile l c.args.next c.in-Retired.r c.explain_in_place-told.ensures c.answer_number-answer.ensures c.reason_number-reason.ensures)
+    (retired_turn c.args.profile l c.args.next c.in-Retired.r c.explain_in_place-told.ensures
+    c.answer_number-answer.ensures c.reason_number-reason.ensures)
 
 pub returns-in-Broken : goal.returns-in-Broken
 returns-in-Broken c =
