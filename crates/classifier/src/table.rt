@@ -1,7 +1,6 @@
 // The rule of each row of 64 opcodes: a number for each value of an opcode's upper ten bits.
 //
-// `rule_page` prints this table for the proofreader. Each use lays it out on the stack anew, so the fast step goes by
-// the match on the top four bits.
+// `rule_page` prints this table for the proofreader. The fast step goes by the match on the top four bits.
 ghost use Rattle.std.specs.Prelude.{◌≡◌, ◌<◌};
 ghost use Rattle.classifier.specs.Rules.{rule_count, row_of, rule_of};
 

@@ -40,7 +40,7 @@ fn retire_record(
     ensures window_after { paid_by result (lent tags.new state.new window.new)
         ≡ retire_at_of profile (lent tags.old state.old window.old)
         (words_at records.now i) }
-    ensures known_2 { Known profile decoded.new }
+    ensures known_after { Known profile decoded.new }
 {
     let at = 4 * i;
     let head = word_at(records, at);

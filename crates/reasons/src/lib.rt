@@ -53,7 +53,7 @@ fn explain_records(
     requires trace_len_bound { length trace.now ≤ 16777216 }
     requires fits { Fits 0 (length costs.old) (read_trace trace.now) }
     requires fits_answers { FitsAnswers 0 (length answers.old) (read_trace trace.now) }
-    requires fits_answers_2 { FitsAnswers 0 (length reasons.old) (read_trace trace.now) }
+    requires fits_reasons { FitsAnswers 0 (length reasons.old) (read_trace trace.now) }
     ensures { explain_outcome (trace_outcome (ran_at result.count result.total (state_at (lent tags.new
         state.new window.new))) (runs costs.new answers.new))
         reasons.new
@@ -90,7 +90,7 @@ fn explain_all(
     requires trace_len_bound { length trace.now ≤ 16777216 }
     requires fits { Fits 0 (length costs.old) (read_trace trace.now) }
     requires fits_answers { FitsAnswers 0 (length answers.old) (read_trace trace.now) }
-    requires fits_answers_2 { FitsAnswers 0 (length reasons.old) (read_trace trace.now) }
+    requires fits_reasons { FitsAnswers 0 (length reasons.old) (read_trace trace.now) }
     ensures { explain_outcome (trace_outcome result (runs costs.new answers.new))
         reasons.new
         ≡ explain_outcome_by profile (read_trace trace.now) (runs costs.old answers.old)

@@ -6,7 +6,7 @@ ghost use Rattle.replaying.specs.HexLines.{hex_bytes_of, hex_rows};
 // A row of bytes in hexadecimal: `count` bytes from the place `from` on.
 fn put_row(out: &mut [u8], start: usize, bytes: &[u8], from: usize, count: usize) -> usize
     requires count_in_bounds { from + count ≤ length bytes.now }
-    requires count_in_bounds_2 { start + 2 * count + 1 ≤ length out.old }
+    requires out_in_bounds { start + 2 * count + 1 ≤ length out.old }
     ensures { written result out.new
         ≡ written_of out.old start (hex_bytes_of (take count (drop from bytes.now)) ++ newline) }
 {

@@ -78,7 +78,7 @@ fn run_whole(
     ensures window_after { paid_by result (lent tags.new state.new window.new)
         ≡ retire_at_of profile (lent tags.old state.old window.old)
         (retirement_at trace.now at) }
-    ensures known_2 { Known profile decoded.new }
+    ensures known_after { Known profile decoded.new }
 {
     let r = records::retirement_at(trace, at);
     let k = r.controls;
@@ -107,7 +107,7 @@ pub fn run_checked(
     ensures window_after { turned result (lent tags.new state.new window.new)
         ≡ turn_of profile at (lent tags.old state.old window.old) (read_at
         trace.now at) }
-    ensures known_2 { Known profile decoded.new }
+    ensures known_after { Known profile decoded.new }
 {
     if records::whole_at(trace, at) {
         let told = run_whole(trace, tags, state, window, decoded, profile, at);

@@ -4,7 +4,7 @@ ghost use Rattle.window.specs.Windows.{shut};
 
 use crate::Window;
 
-// The Rust's break_060_pipeline: the rule by value, stored in place. A walk by hand.
+// The Rust's break_060_pipeline: the rule by value, stored in place.
 pub fn break_060_pipeline(w: &mut Window)
     ensures { w.new ≡ shut }
 {
@@ -12,7 +12,7 @@ pub fn break_060_pipeline(w: &mut Window)
     *w = s;
 }
 
-// The same for a caller with no lent window: a walk by hand.
+// The same for a caller with no lent window.
 pub fn break_in_place(w: Window) -> Window
     ensures { result ≡ shut }
 {

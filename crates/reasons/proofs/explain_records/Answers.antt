@@ -22,7 +22,7 @@ loop-at-init c =
     let held = seen_held c.args.tags.now c.args.state.now (window_at c.args.window.now) c.see_window.ensures in (
       going_start _ c.args.trace.now (runs c.args.costs.now c.args.answers.now) _ held c.requires.fits
           c.requires.fits_answers,
-      telling_start _ c.args.trace.now c.args.reasons.now _ held c.requires.fits_answers_2,
+      telling_start _ c.args.trace.now c.args.reasons.now _ held c.requires.fits_reasons,
     )
 
 pub overflow_add-total : goal.overflow_add-total

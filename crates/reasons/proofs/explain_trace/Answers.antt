@@ -12,7 +12,7 @@ explain_all-requires c =
     let both =
     tells_both c.args.trace.now (length c.args.answers.now) (length c.args.reasons.now) c.fewer-places.ensures
     t.tells in
-    record { trace_len_bound = t.size; fits = t.fits; fits_answers = both.0; fits_answers_2 = both.1 }
+    record { trace_len_bound = t.size; fits = t.fits; fits_answers = both.0; fits_reasons = both.1 }
 
 pub returns-in-Refused : goal.returns-in-Refused
 returns-in-Refused c =

@@ -54,7 +54,7 @@ loop-at-smaller-then-turn-gt0 c =
 pub loop-at-preserved-then-turn-gt0 : goal.loop-at-preserved-then-turn-gt0
 loop-at-preserved-then-turn-gt0 c =
     let gone = turn_gone (lent c.loop-at.tags c.loop-at.state c.loop-at.window) c.loop-at.invariant.1 (omega arith) c.run_checked-turn.ensures.window_after (search rules) in (
-      c.run_checked-turn.ensures.known_2,
+      c.run_checked-turn.ensures.known_after,
       rw (
         c.put_u32.ensures,
         c.put_answer.ensures ∙ set_puts c.loop-at.answers c.loop-at.count c.run_checked-turn.result.answer (gone.room c.if-turn-gt0.true).1,
@@ -70,7 +70,7 @@ loop-at-smaller c =
 pub loop-at-preserved : goal.loop-at-preserved
 loop-at-preserved c =
     let gone = turn_gone (lent c.loop-at.tags c.loop-at.state c.loop-at.window) c.loop-at.invariant.1 (omega arith) c.run_checked-turn.ensures.window_after (search rules) in
-    (c.run_checked-turn.ensures.known_2, gone.quiet c.if-turn-gt0.false)
+    (c.run_checked-turn.ensures.known_after, gone.quiet c.if-turn-gt0.false)
 
 pub returns : goal.returns
 returns c =

@@ -43,7 +43,7 @@ returns-then-has c =
     let d = c.decoded_060-instruction.ensures in
     record {
       window_after = by_table c.args.profile r c.decoded_060-instruction.result (lent c.args.tags.now c.args.state.now c.args.window.now) c.args.records.now c.args.i d.value words (c.retire_branch.ensures op) d.window_unchanged;
-      known_2 = d.decoded_after.1;
+      known_after = d.decoded_after.1;
     }
 
 pub returns-then-k : goal.returns-then-k
@@ -57,7 +57,7 @@ returns-then-k c =
     let d = c.decoded_060-instruction.ensures in
     record {
       window_after = by_table c.args.profile r c.decoded_060-instruction.result (lent c.args.tags.now c.args.state.now c.args.window.now) c.args.records.now c.args.i d.value words (c.retire_flow.ensures c.decoded_060-instruction.result (sym c.has.ensures ∙ c.if-has.false) op _ _) d.window_unchanged;
-      known_2 = d.decoded_after.1;
+      known_after = d.decoded_after.1;
     }
 
 pub retire_neither-requires : goal.retire_neither-requires
@@ -74,5 +74,5 @@ returns c =
     let d = c.decoded_060-instruction.ensures in
     record {
       window_after = by_table c.args.profile r c.decoded_060-instruction.result (lent c.args.tags.now c.args.state.now c.args.window.now) c.args.records.now c.args.i d.value words (c.retire_neither.ensures _ _) d.window_unchanged;
-      known_2 = d.decoded_after.1;
+      known_after = d.decoded_after.1;
     }

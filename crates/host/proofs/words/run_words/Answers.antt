@@ -36,7 +36,7 @@ loop-i-preserved c =
       search rules,
       omega (arith, c.loop-i.invariant.3, small (goal.at.loop-i-preserved c).After-clocks_in-cost),
       window_plain c.args.profile from r e,
-      c.retire_record-told.ensures.known_2,
+      c.retire_record-told.ensures.known_after,
       rest_again c.args.profile c.args.records.now (runs c.loop-i.costs c.loop-i.answers) c.loop-i.i c.loop-i.total (state_at from) there (omega (arith, c.loop-i.invariant.1, c.requires.0, there)) (omega (arith, c.loop-i.invariant.2, c.requires.1, there)) (stepped_held c.args.profile from r e) ∙ c.loop-i.invariant.6,
     )
 

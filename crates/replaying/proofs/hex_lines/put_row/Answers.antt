@@ -26,19 +26,19 @@ pub bounds-bytes-from : goal.bounds-bytes-from
 bounds-bytes-from c = omega (arith, c.requires.count_in_bounds)
 
 pub put_hex2-place-requires : goal.put_hex2-place-requires
-put_hex2-place-requires c = omega (arith, c.loop-i.invariant.at, c.loop-i.invariant.same, c.requires.count_in_bounds_2)
+put_hex2-place-requires c = omega (arith, c.loop-i.invariant.at, c.loop-i.invariant.same, c.requires.out_in_bounds)
 
 pub loop-i-preserved : goal.loop-i-preserved
-loop-i-preserved c = row_byte c.loop-i.invariant (omega (arith, long c.args.bytes.now c.args.from c.args.count c.requires.count_in_bounds, c.requires.count_in_bounds_2)) (omega (arith, long c.args.bytes.now c.args.from c.args.count c.requires.count_in_bounds)) (rw (byte c.args.bytes.now c.args.from c.args.count c.loop-i.i c.loop-i-test.true) c.put_hex2-place.ensures)
+loop-i-preserved c = row_byte c.loop-i.invariant (omega (arith, long c.args.bytes.now c.args.from c.args.count c.requires.count_in_bounds, c.requires.out_in_bounds)) (omega (arith, long c.args.bytes.now c.args.from c.args.count c.requires.count_in_bounds)) (rw (byte c.args.bytes.now c.args.from c.args.count c.loop-i.i c.loop-i-test.true) c.put_hex2-place.ensures)
 
 pub bounds-out-place : goal.bounds-out-place
-bounds-out-place c = omega (arith, c.loop-i.invariant.at, c.loop-i.invariant.inside, c.loop-i.invariant.same, long c.args.bytes.now c.args.from c.args.count c.requires.count_in_bounds, c.requires.count_in_bounds_2)
+bounds-out-place c = omega (arith, c.loop-i.invariant.at, c.loop-i.invariant.inside, c.loop-i.invariant.same, long c.args.bytes.now c.args.from c.args.count c.requires.count_in_bounds, c.requires.out_in_bounds)
 
 pub overflow_add-result : goal.overflow_add-result
-overflow_add-result c = omega (arith, c.loop-i.invariant.at, c.loop-i.invariant.inside, long c.args.bytes.now c.args.from c.args.count c.requires.count_in_bounds, c.requires.count_in_bounds_2, c.well_formed)
+overflow_add-result c = omega (arith, c.loop-i.invariant.at, c.loop-i.invariant.inside, long c.args.bytes.now c.args.from c.args.count c.requires.count_in_bounds, c.requires.out_in_bounds, c.well_formed)
 
 -- then the end of the line
 pub returns : goal.returns
 returns c =
     let l = long c.args.bytes.now c.args.from c.args.count c.requires.count_in_bounds in
-    wrote_whole (row_end c.loop-i.invariant (omega (arith, l, c.requires.count_in_bounds_2)) (omega (arith, l)))
+    wrote_whole (row_end c.loop-i.invariant (omega (arith, l, c.requires.out_in_bounds)) (omega (arith, l)))

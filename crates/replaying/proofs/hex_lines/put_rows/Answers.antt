@@ -8,13 +8,13 @@ pub loop-row-init : goal.loop-row-init
 loop-row-init c = rows_start _ _ _
 
 pub put_row-place-requires : goal.put_row-place-requires
-put_row-place-requires c = (record { count_in_bounds = omega (arith, c.requires.image_len); count_in_bounds_2 = omega (arith, c.loop-row.invariant.at, c.loop-row.invariant.same, c.requires.start_in_bounds) })
+put_row-place-requires c = (record { count_in_bounds = omega (arith, c.requires.image_len); out_in_bounds = omega (arith, c.loop-row.invariant.at, c.loop-row.invariant.same, c.requires.start_in_bounds) })
 
 pub loop-row-preserved : goal.loop-row-preserved
 loop-row-preserved c = rows_next c.loop-row.invariant c.requires.image_len c.requires.start_in_bounds c.loop-row-test.true c.put_row-place.ensures
 
 pub put_row-requires : goal.put_row-requires
-put_row-requires c = (record { count_in_bounds = omega (arith, c.requires.image_len); count_in_bounds_2 = omega (arith, c.loop-row.invariant.at, c.loop-row.invariant.inside, c.loop-row.invariant.same, c.requires.start_in_bounds) })
+put_row-requires c = (record { count_in_bounds = omega (arith, c.requires.image_len); out_in_bounds = omega (arith, c.loop-row.invariant.at, c.loop-row.invariant.inside, c.loop-row.invariant.same, c.requires.start_in_bounds) })
 
 pub returns : goal.returns
 returns c = rows_end c.loop-row.invariant c.requires.image_len c.requires.start_in_bounds c.loop-row-test.false c.put_row.ensures refl

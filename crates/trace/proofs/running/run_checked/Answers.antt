@@ -35,8 +35,8 @@ returns-then-whole_at c =
       window_after =
           ap (λ (x : Paid). turned (record { next = c.args.at + 20; count = 1; cost = x.cost; answer = x.answer }) x.lent) e
           ∙ sym (ap (turn_of c.args.profile c.args.at l) (whole_got c.args.trace.now c.args.at h c.requires.unrefused));
-      known_2 = c.run_whole-told.ensures.known_2;
+      known_after = c.run_whole-told.ensures.known_after;
     }
 
 pub returns : goal.returns
-returns c = record { window_after = c.run_record.ensures; known_2 = c.requires.known }
+returns c = record { window_after = c.run_record.ensures; known_after = c.requires.known }

@@ -25,7 +25,7 @@ returns-then-has c =
     let d = c.decoded_060-instruction.ensures in
     record {
       window_after = by_table c.args.profile c.retirement_at-r.result c.decoded_060-instruction.result (lent c.args.tags.now c.args.state.now c.args.window.now) c.args.trace.now c.args.at d.value c.retirement_at-r.ensures (c.retire_branch.ensures c.retirement_at-r.result.op) d.window_unchanged;
-      known_2 = d.decoded_after.1;
+      known_after = d.decoded_after.1;
     }
 
 pub returns-then-k : goal.returns-then-k
@@ -33,7 +33,7 @@ returns-then-k c =
     let d = c.decoded_060-instruction.ensures in
     record {
       window_after = by_table c.args.profile c.retirement_at-r.result c.decoded_060-instruction.result (lent c.args.tags.now c.args.state.now c.args.window.now) c.args.trace.now c.args.at d.value c.retirement_at-r.ensures (c.retire_flow.ensures c.decoded_060-instruction.result (sym c.has.ensures ∙ c.if-has.false) c.retirement_at-r.result.op _ _) d.window_unchanged;
-      known_2 = d.decoded_after.1;
+      known_after = d.decoded_after.1;
     }
 
 pub retire_neither-requires : goal.retire_neither-requires
@@ -44,5 +44,5 @@ returns c =
     let d = c.decoded_060-instruction.ensures in
     record {
       window_after = by_table c.args.profile c.retirement_at-r.result c.decoded_060-instruction.result (lent c.args.tags.now c.args.state.now c.args.window.now) c.args.trace.now c.args.at d.value c.retirement_at-r.ensures (c.retire_neither.ensures _ _) d.window_unchanged;
-      known_2 = d.decoded_after.1;
+      known_after = d.decoded_after.1;
     }
