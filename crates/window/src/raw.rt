@@ -9,12 +9,15 @@ use class_word::Clocks;
 #[derive(Clone, Copy)]
 pub struct RawCount(pub i32);
 
+// The least quarter that is passed on as it is.
+const LEAST: i32 = 1;
+
 // Truncated toward zero, at least 1.
 pub fn fallback_cycles(raw: RawCount) -> Clocks
     ensures { result ≡ clocks (fallback_of raw.0) }
 {
     let quarter = raw.0 / 4;
-    if quarter < 1 {
+    if quarter < LEAST {
         return Clocks(1);
     }
     Clocks(quarter as u32)

@@ -17,6 +17,7 @@ use Rattle.state.specs.Events.{consults, answer_of, cache_after}
 use Rattle.state.specs.CrateCache.{crate_cache}
 use Rattle.state.specs.Timing.{asked, stepped_by}
 use Rattle.state.proofs.Stepping.{left, stepped_branch}
+use borrow.Author.Rules.{rules}
 use Rattle.step.proofs.branch_060.Goals as goal
 
 module _ (c : BranchCache060) (i : Instruction) (k : Controls) where
@@ -40,7 +41,7 @@ retired t i r b {a} e {c} h {w} q {taken} s {d} f {n} p =
 pub returns-then-consulted : goal.returns-then-consulted
 returns-then-consulted c =
     let e = sym c.consulted.ensures ∙ c.if-consulted.true in
-    retired c.args.timing c.args.i c.args.r c.requires c.answered-predicted.ensures (updated c.args.timing.cache c.args.i c.args.r.controls e c.taken-taken.ensures c.update-timing.ensures)
+    retired c.args.timing c.args.i c.args.r c.requires c.answered-predicted.ensures (updated c.args.timing.cache c.args.i c.args.r.controls e c.taken-taken.ensures (search rules))
     c.shut-timing.ensures c.taken-taken.ensures c.has.ensures c.branch_cost_060-charged.ensures
 
 pub returns-else-consulted : goal.returns-else-consulted

@@ -69,8 +69,7 @@ returns-then-len-want c = wrong _ _ _ c.u16_at-len.ensures c.payload_length-want
 
 pub returns-then-trace-next : goal.returns-then-trace-next
 returns-then-trace-next c =
-    cut _ _ _ c.u16_at-len.ensures c.payload_length-want.ensures c.if-len-want.false
-    c.if-trace-next.true
+    cut _ _ _ c.u16_at-len.ensures c.payload_length-want.ensures (omega arith) c.if-trace-next.true
 
 pub u16_at-requires : goal.u16_at-requires
 u16_at-requires c =
