@@ -26,7 +26,7 @@ fn word_at(records: &[u32], at: usize) -> u32
 
 // The record of the words from 4 * i on, which are there, retired in place, its opcode looked up in the run's table:
 // its clocks and what the cache predicted.
-fn retire_record(
+fn retire_known(
     records: &[u32],
     i: usize,
     tags: &mut [u32; 256],
@@ -59,8 +59,26 @@ fn retire_record(
     in_place::retire_neither(window, op, instruction, k)
 }
 
-// The records of a batch that is accepted, each in place: their total.
-fn run_words(
+// The same by a table of its own, in the profile of a number.
+fn retire_record(
+    records: &[u32],
+    i: usize,
+    tags: &mut [u32; 256],
+    state: &mut [u8; 256],
+    window: &mut WindowNumbers,
+    profile: u32,
+) -> u64
+    requires { 4 * i + 4 ≤ length records.now }
+    ensures { paid_by result (lent tags.new state.new window.new)
+        ≡ retire_at_of (profile_at profile) (lent tags.old state.old window.old)
+        (words_at records.now i) }
+{
+    let read = profile::profile_at(profile);
+    retire_known(records, i, tags, state, window, &mut [0; DECODED], read)
+}
+
+// The records of a batch that is accepted, each in place, in a profile: their total.
+fn run_known(
     records: &[u32],
     costs: &mut [u32],
     answers: &mut [u8],
@@ -83,7 +101,7 @@ fn run_words(
     let mut total: u64 = 0;
     let mut i: usize = 0;
     while i < count {
-        let told = retire_record(records, i, tags, state, window, &mut decoded, profile);
+        let told = retire_known(records, i, tags, state, window, &mut decoded, profile);
         let cost = clocks_in(told);
         costs[i] = cost.0;
         answers[i] = answer_in(told);
@@ -91,6 +109,28 @@ fn run_words(
         i += 1;
     }
     total
+}
+
+// The same in the profile of a number.
+fn run_words(
+    records: &[u32],
+    costs: &mut [u32],
+    answers: &mut [u8],
+    tags: &mut [u32; 256],
+    state: &mut [u8; 256],
+    window: &mut WindowNumbers,
+    profile: u32,
+) -> u64
+    requires { (length records.now / 4 ≤ length costs.old) × (length records.now / 4 ≤ length answers.old)
+        × (length records.now / 4 ≤ 1048576) }
+    ensures { host_outcome (host_ran_of Accepted (length records.now / 4) result) (runs costs.new
+        answers.new) (lent tags.new state.new window.new)
+        ≡ host_outcome_of_batch (lent tags.old state.old window.old)
+        (batch_accepted_of (profile_at profile) (retirements_of records.now) (runs costs.old
+        answers.old) (state_at (lent tags.old state.old window.old))) }
+{
+    let p = profile::profile_at(profile);
+    run_known(records, costs, answers, tags, state, window, p)
 }
 
 // A batch of records of four words each; words beyond the last whole record are not read.
@@ -113,8 +153,7 @@ pub fn run_batch_at(
     match verdict {
         Verdict::Refused(_) => host_ran(verdict, 0, 0),
         Verdict::Accepted => {
-            let p = profile::profile_at(profile);
-            let total = run_words(records, costs, answers, tags, state, window, p);
+            let total = run_words(records, costs, answers, tags, state, window, profile);
             host_ran(verdict, count, total)
         }
     }

@@ -13,4 +13,4 @@ pub returns-in-Refused : goal.returns-in-Refused
 returns-in-Refused c = batch_refused_lem (profile_at c.args.profile) c.args.records.now (runs c.args.costs.now c.args.answers.now) (lent c.args.tags.now c.args.state.now c.args.window.now) c.in-Refused.is c.batch_verdict-verdict.ensures c.host_ran.ensures
 
 pub returns-in-Accepted : goal.returns-in-Accepted
-returns-in-Accepted c = batch_accepted (profile_at c.args.profile) c.args.records.now (runs c.args.costs.now c.args.answers.now) (lent c.args.tags.now c.args.state.now c.args.window.now) c.in-Accepted.is c.batch_verdict-verdict.ensures c.host_ran-in-Accepted.ensures (rw c.profile_at-p.ensures at c.run_words-total.ensures)
+returns-in-Accepted c = batch_accepted (profile_at c.args.profile) c.args.records.now (runs c.args.costs.now c.args.answers.now) (lent c.args.tags.now c.args.state.now c.args.window.now) c.in-Accepted.is c.batch_verdict-verdict.ensures c.host_ran-in-Accepted.ensures c.run_words-total.ensures

@@ -1,4 +1,4 @@
--- `run_words`: record after record, what is left to run from here gives what all give from the start; each cost is below 2 ^ 32, so the total fits.
+-- `run_known`: record after record, what is left to run from here gives what all give from the start; each cost is below 2 ^ 32, so the total fits.
 use mathlib.Core.Path.{◌≡◌}
 use Prim.Native.Nat.{◌*◌, ◌-◌, ◌/◌, ◌≤◌}
 use lib.ListN.{length, drop}
@@ -8,7 +8,7 @@ use Rattle.in_place.specs.Decoded.{Known}
 use Rattle.refusals.specs.Runs.{runs}
 use Rattle.host.specs.HostWords.{retirements_of}
 use Rattle.host.proofs.Batch.{rest_of}
-use Rattle.host.proofs.words.run_words.Given as goal
+use Rattle.host.proofs.words.run_known.Given as goal
 
 abbrev pub invariant-loop-i : goal.invariant-loop-i
 invariant-loop-i l =
