@@ -9,8 +9,8 @@
 --                               two records
 --   reached c lent          ==  that, of what is carried and of the lent runs
 --   pay_of lent i c x       ==  how far it is once the step x is paid: its cost and its answer are stored in place i of
---                               the lent runs, the cost is added to the total of c, and the state is carried on with the
---                               profile
+--                               the lent runs, the cost is added to the total of c, and the state is carried on with
+--                               the profile
 --   finish_of c j           ==  what is returned, of what is carried past the last record, and of the verdict
 use Rattle.std.specs.Prelude.{ℕ, ◌+◌, set}
 use Rattle.cost.specs.Branch.{answer_number}

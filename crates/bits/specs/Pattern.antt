@@ -1,9 +1,9 @@
 -- Opcode patterns, as Motorola's manuals print them: the highest place first, each place 0, 1 or any.
 --
---   Pattern        ==  `bits I X O` is the pattern "1x0" of the low three bits; what stands above it is not looked at
---   matches p op   ==  the opcode has the pattern's bits wherever the pattern has 0 or 1
---   mask_of p       ==  the number with bit 1 where the pattern has 0 or 1: the Rust's M in `op & M == V`
---   value_of p      ==  the number with bit 1 where the pattern has 1: the Rust's V
+--   Pattern       ==  `bits I X O` is the pattern "1x0" of the low three bits; what stands above it is not looked at
+--   matches p op  ==  the opcode has the pattern's bits wherever the pattern has 0 or 1
+--   mask_of p     ==  the number with bit 1 where the pattern has 0 or 1: the Rust's M in `op & M == V`
+--   value_of p    ==  the number with bit 1 where the pattern has 1: the Rust's V
 use Rattle.std.specs.Prelude.{ℕ, ◌+◌, ◌*◌, ◌/◌, ◌%◌, Bool, true, ◌&&◌, eqb}
 
 infixl 90 ◌O

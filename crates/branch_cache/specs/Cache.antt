@@ -3,10 +3,10 @@
 -- The slots of the cache:
 --   cache_at ts bs                   ==  the cache of these tags and bytes
 --   slot_at c n                      ==  slot n of the cache, a tag and a byte
---                                       "The cache holds one tag and one byte for each of 256 slots"
+--                                        "The cache holds one tag and one byte for each of 256 slots"
 --   slot_put c n slot                ==  the cache with this slot at n, all others as they were
 --   slot_of pc                       ==  the number of the slot that the address pc of a branch goes to
---                                       "slot is bits 1 to 8 of ppc"
+--                                        "slot is bits 1 to 8 of ppc"
 -- The cache:
 --   cache_predict_of c pc            ==  what the slot that pc goes to predicts
 --   cache_update_of c pc taken user  ==  the cache with the slot that pc goes to updated

@@ -5,7 +5,7 @@
 --   counter_of b                    ==  its counter
 --                                       "bits 0 and 1 counter"
 --   valid_of b                      ==  it is valid
---                                      "bit 2 valid"
+--                                       "bit 2 valid"
 --   user_of b                       ==  it was allocated in user mode
 --                                       "bit 3 allocated in user mode"
 --   byte_of counter valid user      ==  the byte made of these three, with all higher bits 0

@@ -4,11 +4,11 @@
 --   BRANCH .. WRITES_MEM  ==  the flags
 --                             "then flags: BRANCH 0080, DBCC 0100, .. (hex)"
 --   word_of c k f         ==  the class word of class number c, k clocks and the sum f of some flags
---                            "class in bits 0 and 1, clocks in bits 2 to 6, then flags"
+--                             "class in bits 0 and 1, clocks in bits 2 to 6, then flags"
 --   new_of c k f          ==  the word that the Rust's `Info060::new` packs from any numbers: of the clocks only five
 --                             bits, and each bit of f, wherever it stands
 --   class_of w            ==  the class number in a word
---                            "`class`, `cycles` and `has` answer from the word alone"
+--                             "`class`, `cycles` and `has` answer from the word alone"
 --   clocks_of w           ==  the clocks in a word
 --   flags_of w            ==  the flags in a word
 --   has w f               ==  the word and the flag f have a bit in common, for every f

@@ -1,12 +1,12 @@
 -- Document 02, R-3, "A table the proofreader can read": "a constant table of 1,024 numbers, one for each value of the
 -- opcode's upper ten bits, naming the rule that the low six bits finish".
 --
--- An opcode row is the 64 opcodes that have the same upper ten bits, and a rule is a way from the low six bits, the mode
--- and reg of an operand, to a class word. Which opcode row has which rule is not written down here: it is the rule that
--- gives its opcodes the class words of the classifier (Classify). No two rules are alike, so there is only one.
+-- An opcode row is the 64 opcodes that have the same upper ten bits, and a rule is a way from the low six bits, the
+-- mode and reg of an operand, to a class word. Which opcode row has which rule is not written down here: it is the rule
+-- that gives its opcodes the class words of the classifier (Classify). No two rules are alike, so there is only one.
 --
---   Rule                   ==  a name, one word; a sentence for the proofreader; and what the low six bits give, by tests
---                              tried in order (Rows of the crate bits)
+--   Rule                   ==  a name, one word; a sentence for the proofreader; and what the low six bits give, by
+--                              tests tried in order (Rows of the crate bits)
 --   rule name says gives   ==  the three together
 --   to_memory, to_indexed  ==  the flags of MOVE's destination where it is memory, and where that is indexed
 --   bit_entry a            ==  class 1, 1 clock, DEFINES_CCR and the operand's flags

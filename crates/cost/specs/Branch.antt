@@ -2,21 +2,21 @@
 -- cycles_060's case of a branch.
 --
 --   taken_of i k                       ==  a branch is taken
---                                         "taken is `flowed`; for DBcc it is pc different from ppc + 4 modulo 2^32,
---                                         `flowed` ignored"
+--                                          "taken is `flowed`; for DBcc it is pc different from ppc + 4 modulo 2^32,
+--                                          `flowed` ignored"
 --   predicts_taken a                   ==  the cache predicted the branch taken; a miss does not (the Rust's
 --                                          `predict(..).unwrap_or(false)`), nor does a cache that was not asked
 --   static_cost dbcc taken             ==  a branch of which the cache was not asked
 --                                          "DBcc 2 taken, 3 expired; others 7 taken, 1 not"
 --   asked_cost predicted taken opened  ==  a branch of which the cache was asked
---                                          "predicted and taken costs 0 if the window was open, else 1; neither costs 1;
---                                          a mismatch costs 7"
+--                                          "predicted and taken costs 0 if the window was open, else 1; neither costs
+--                                          1; a mismatch costs 7"
 --   branch_cost dbcc taken opened a    ==  the one or the other, by the cache's answer
 --   answer_number a                    ==  the number of the cache's answer. Document 02, R-5: "not consulted, miss,
 --                                          predicted not taken, predicted taken"; "0 to 3 in this order"
 --   answer_at n                        ==  the answer of a number; one that is no answer's is read as the last
---   branch_of dbcc taken opened a      ==  what a branch costs, and the answer. Document 02, R-5: "The branch cost shall
---                                          also answer"
+--   branch_of dbcc taken opened a      ==  what a branch costs, and the answer. Document 02, R-5: "The branch cost
+--                                          shall also answer"
 use Rattle.std.specs.Prelude.{ℕ, ◌+◌, ◌%◌, ◌^◌, Bool, true, false, cond, not, ◌==◌}
 use Rattle.class_word.specs.Word.{has, clocks, DBCC}
 use Rattle.window.specs.declared.dispatch.Instruction.{Instruction}

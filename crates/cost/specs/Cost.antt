@@ -4,7 +4,7 @@
 --                               "the larger of the fallback and 5"
 --   plain_of word raw       ==  "the fallback if VARIABLE or UNCLASSIFIED, or the packed clocks"
 --   base_of i k             ==  the base
---                              "plus 1 if indexed"
+--                               "plus 1 if indexed"
 --   pairs i k w             ==  it joins the head
 --                               "If the window is open and the dispatch test passes"
 --   as_head op i k          ==  the window with this instruction as head, its opcode and its ppc kept

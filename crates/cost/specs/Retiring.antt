@@ -5,7 +5,7 @@
 --                            controls, the window before it and the cache's answer
 --   retiring op i k w a  ==  the retirement that has these five
 --   Point, point_of i k  ==  which of the three points of "One retirement" it is: `branch` "1. BRANCH", `flow` "2.
---                           Else, flowed", `neither` "3. Else"
+--                            Else, flowed", `neither` "3. Else"
 --   other_point k        ==  which of the last two, of what is no branch
 use Rattle.std.specs.Prelude.{ℕ, cond}
 use Rattle.class_word.specs.Word.{has, BRANCH}

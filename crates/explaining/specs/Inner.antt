@@ -3,8 +3,8 @@
 --   word_at n        ==  the word of the reason of this number
 --   count_text ns n  ==  the line of the reason of this number, whose count is the number of that place of ns
 --   met_by p t said  ==  the retirements of what a trace said, as they are met from the state t; none of a refused one
---   Lined            ==  what is known when the lines of the retirements rs are written: the place behind them, how many
---                        there are, the sum of their costs, and how many have each reason
+--   Lined            ==  what is known when the lines of the retirements rs are written: the place behind them, how
+--                        many there are, the sum of their costs, and how many have each reason
 use Rattle.std.specs.Prelude.{ℕ, ◌≡◌, Bool, List, [], map, length, get_or}
 use Rattle.text.specs.Written.{text_of, written, written_of}
 use Rattle.cost.specs.Retiring.{Retiring}

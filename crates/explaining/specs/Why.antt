@@ -7,7 +7,8 @@
 --   why_table_of full p es t   ==  the output for the events of a trace that is accepted: the header, a line for each
 --                                  retirement, the total, which is the cost lister's, and the counts
 --   why_text_by full p said t  ==  the output by what the trace said; a refusal is the whole output
---   why_of full p trace t      ==  the whole output; `short_trace_of` of the listing is what the trace says, with the limit
+--   why_of full p trace t      ==  the whole output; `short_trace_of` of the listing is what the trace says, with the
+--                                  limit
 use Rattle.std.specs.Prelude.{ℕ, Bool, List, ◌++◌}
 use Rattle.cost.specs.Retiring.{Retiring}
 use Rattle.profile.specs.declared.Profile.{Profile}

@@ -30,7 +30,8 @@ use Rattle.reasons.specs.Explain.{explained_of}
 use Rattle.explaining.specs.Words.{predicted_word, head_opcode, head_address, in_the_way}
 
 abbrev pub why_header : Bool → List ℕ
-why_header full = text_of "index opcode clocks reason predicted" ++ cond full (text_of " head at registers") [] ++ newline
+why_header full =
+    text_of "index opcode clocks reason predicted" ++ cond full (text_of " head at registers") [] ++ newline
 
 unfoldable pub numbers_text : ℕ → ℕ → ℕ → List ℕ
 numbers_text index op n = decimal_of index ++ text_of " " ++ hex_of op ++ text_of " " ++ decimal_of n

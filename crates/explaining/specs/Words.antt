@@ -3,8 +3,8 @@
 --
 --   predicted_word a      ==  what the cache predicted, as a word. R-5: "not consulted, miss, predicted not taken,
 --                             predicted taken"
---   dash                  ==  `-`: in both columns of the head where the window is shut, and where no register stands in
---                             the way
+--   dash                  ==  `-`: in both columns of the head where the window is shut, and where no register stands
+--                             in the way
 --   register_name n       ==  the name of the register of bit n of a mask: `D0` to `D7`, then `A0` to `A7`
 --   comma mask n          ==  a comma, where a register of the mask stands before that of bit n
 --   register_text mask n  ==  what bit n adds to the registers: its name behind the comma, or nothing if it is not set

@@ -54,8 +54,8 @@ fn put_lines(
 ) -> Put
     requires fits_answers { FitsAnswers 0 3276 (read_trace trace.now) }
     requires counts_value { counts.old ≡ replicate 14 0 }
-    requires trace_in_bounds { start + length (why_lines full 0 (met_by profile (state_at (lent tags.old state.old window.old))
-        (read_trace trace.now))) ≤ length out.old }
+    requires trace_in_bounds { start + length (why_lines full 0 (met_by profile (state_at (lent tags.old
+        state.old window.old)) (read_trace trace.now))) ≤ length out.old }
     ensures { Lined full out.old start (met_by profile (state_at (lent tags.old
         state.old window.old)) (read_trace trace.now)) result out.new
         counts.new }

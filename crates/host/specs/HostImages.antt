@@ -4,7 +4,8 @@
 --   HostImage                  ==  what image writing returns, together with every lent byte afterwards; the state's
 --                                  numbers are only looked at
 --   host_image ran image       ==  these two
---   host_image_of o            ==  the same of the outcome of image writing: the count is the bytes written, the total 0
+--   host_image_of o            ==  the same of the outcome of image writing: the count is the bytes written, the total
+--                                  0
 --   image_write_at_of l image  ==  the image of the lent numbers l into the lent bytes image
 --                                  "Image writing answers 1,288 bytes written, or 0 if refused", which are 1,294 now
 --   HostState                  ==  what image reading returns, together with every lent number afterwards

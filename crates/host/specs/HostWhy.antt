@@ -2,8 +2,8 @@
 -- The Rust has none.
 --
 --   why_number x                ==  an explained retirement as the one 64-bit number that a single step hands back: its
---                                   clocks in the low 32 bits, above them 8 bits for what the cache predicted, and above
---                                   these the number of its reason
+--                                   clocks in the low 32 bits, above them 8 bits for what the cache predicted, and
+--                                   above these the number of its reason
 --   HostExplained               ==  this number, together with every lent number afterwards
 --   host_explained n l          ==  these two
 --   host_explained_of o         ==  the same of a retirement that was explained in place
@@ -11,8 +11,8 @@
 --   HostWhy                     ==  what a host sees of a run, together with the lent reasons afterwards
 --   host_why o reasons          ==  these two
 --   host_why_of l o             ==  the same of the outcome of a run that says why, on the lent numbers l
---   explain_trace_at_of         ==  the run of the trace in the profile p, with the two lent runs and the lent reasons, on
---                                   the lent numbers l
+--   explain_trace_at_of         ==  the run of the trace in the profile p, with the two lent runs and the lent reasons,
+--                                   on the lent numbers l
 use Rattle.std.specs.Prelude.{ℕ, ◌+◌, ◌*◌, ◌^◌, List}
 use Rattle.cost.specs.Branch.{answer_number}
 use Rattle.profile.specs.declared.Profile.{Profile}

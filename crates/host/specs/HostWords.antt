@@ -1,13 +1,13 @@
 -- A batch of 32-bit words, on lent numbers. Document 01, "Records and images". The Rust has none.
 --
---   words_of head ppc pc raw     ==  the retirement of four 32-bit words: the opcode, 65,536 times the flags added; ppc;
---                                   pc; the bits of raw
+--   words_of head ppc pc raw     ==  the retirement of four 32-bit words: the opcode, 65,536 times the flags added;
+--                                    ppc; pc; the bits of raw
 --   words_at ws i                ==  the retirement of the four words from 4 * i on
 --   retirements_of ws            ==  the retirements of the words ws, four words each; one to three words that are left
 --                                    over are not read
 --   host_outcome_of_batch l o    ==  what a host sees of the outcome of a batch on the lent numbers l
---   run_batch_at_of p ws both l  ==  the batch of these retirements in the profile p, with the two lent runs, on the lent
---                                    numbers l
+--   run_batch_at_of p ws both l  ==  the batch of these retirements in the profile p, with the two lent runs, on the
+--                                    lent numbers l
 use Rattle.std.specs.Prelude.{ℕ, ◌+◌, ◌*◌, ◌/◌, ◌%◌, List, [], ◌∷◌, get_or}
 use Rattle.little_endian.specs.Signed.{signed_of}
 use Rattle.profile.specs.declared.Profile.{Profile}
@@ -23,7 +23,8 @@ abbrev pub words_of : ℕ → ℕ → ℕ → ℕ → Retirement
 words_of head ppc pc raw = retirement_of (head % 65536) (head / 65536) ppc pc (raw_count (signed_of raw))
 
 abbrev pub words_at : List ℕ → ℕ → Retirement
-words_at ws i = words_of (get_or ws (4 * i) 0) (get_or ws (4 * i + 1) 0) (get_or ws (4 * i + 2) 0) (get_or ws (4 * i + 3) 0)
+words_at ws i =
+    words_of (get_or ws (4 * i) 0) (get_or ws (4 * i + 1) 0) (get_or ws (4 * i + 2) 0) (get_or ws (4 * i + 3) 0)
 
 unfoldable pub retirements_of : List ℕ → List Retirement
 retirements_of (head ∷ ppc ∷ pc ∷ raw ∷ ws) = words_of head ppc pc raw ∷ retirements_of ws

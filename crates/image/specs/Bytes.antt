@@ -3,7 +3,7 @@
 -- (4) and opcode (2) follow the old fields." Here its parts as bytes. The Rust has none.
 --
 --   bits_of w            ==  the bits of a window
---                           "bits (0 CCR, 1 memory, 2 cached)"
+--                            "bits (0 CCR, 1 memory, 2 cached)"
 --   header_bytes         ==  payload length 1,290 and kind 17
 --                            "A record is a 2-byte payload length, a 2-byte kind, then the payload"
 --   window_bytes w       ==  the old fields of a window, in 1, 2 and 1 bytes
@@ -31,4 +31,5 @@ abbrev pub head_bytes : Window → List ℕ
 head_bytes w = bytes_of 4 w.address ++ bytes_of 2 w.op
 
 abbrev pub image_bytes : List ℕ → List ℕ → Window → List ℕ
-image_bytes tags slots w = header_bytes ++ bytes_of_each 4 tags ++ bytes_of_each 1 slots ++ window_bytes w ++ head_bytes w
+image_bytes tags slots w =
+    header_bytes ++ bytes_of_each 4 tags ++ bytes_of_each 1 slots ++ window_bytes w ++ head_bytes w

@@ -3,9 +3,9 @@
 -- read in Parts. The Rust has none.
 --
 --   image_of t        ==  the image of the state t: header, tags of 4 bytes, slots of 1 byte, and the window as it is
---                        read, its head behind it
---                        "A shut window has zeros. A state handed in shut with other window fields set is read, and
---                        handed back, as if they were zero"
+--                         read, its head behind it
+--                         "A shut window has zeros. A state handed in shut with other window fields set is read, and
+--                         handed back, as if they were zero"
 --   image_state_of s  ==  the state of the image s, of either kind
 -- What the types of the code hold always:
 --   InRange t         ==  256 tags below 2^32, 256 slots' bytes below 2^8, a def mask below 2^16, and of the head an
@@ -21,7 +21,8 @@ unfoldable pub image_of : Oep060Timing → List ℕ
 image_of t = image_bytes t.cache.tags t.cache.state (seen t.window)
 
 abbrev pub image_state_of : List ℕ → Oep060Timing
-image_state_of s = record { cache = record { tags = image_tags_of s; state = image_slots_of s }; window = image_window_of s }
+image_state_of s =
+    record { cache = record { tags = image_tags_of s; state = image_slots_of s }; window = image_window_of s }
 
 pub record InRange (t : Oep060Timing) : Type 0 where
   pub tags : (length t.cache.tags ≡ 256) × Below (2 ^ 32) t.cache.tags

@@ -4,7 +4,7 @@
 --
 --   slot_of op        ==  where in the table the opcode stands
 --   entry_of op i     ==  the opcode and what it is to the window, i, as one number: 16 bits each of opcode, word, uses
---                        and defs, the opcode lowest
+--                         and defs, the opcode lowest
 --   op_in e           ==  the opcode of an entry
 --   instruction_in e  ==  what the entry says that its opcode is
 --   IsEntry e op i    ==  e is the entry of the opcode, and what it says is i: no bit is lost

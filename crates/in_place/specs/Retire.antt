@@ -12,8 +12,8 @@
 --                              lent numbers l
 --   retire_at_of p l r     ==  the retirement r on the lent numbers l, in the profile p
 --   event_at_of p l e      ==  the lent numbers after the event e
---   paid_for p l e         ==  the event e on the lent numbers l: what it costs and what the cache predicted, 0 and 0 for
---                              any but a retirement, and every lent number afterwards
+--   paid_for p l e         ==  the event e on the lent numbers l: what it costs and what the cache predicted, 0 and 0
+--                              for any but a retirement, and every lent number afterwards
 use Rattle.std.specs.Prelude.{ℕ, ◌/◌, ◌%◌, ◌^◌}
 use Rattle.class_word.specs.declared.Clocks.{Clocks}
 use Rattle.class_word.specs.Word.{clocks}

@@ -35,8 +35,8 @@ use window::RawCount;
 pub use windows::{WINDOW_NUMBERS, WindowNumbers, put_window, see_window, shut_window, window_at};
 
 // The step of a number, and the one place where an opcode is looked up: the compiler lays a function so large into a
-// single caller alone. It is asked by a number, of which bit 0 is the profile's: to retire, or, where bit 1 is set, only
-// what the profile has of the opcode, as an entry; then the lent numbers stay.
+// single caller alone. It is asked by a number, of which bit 0 is the profile's: to retire, or, where bit 1 is set,
+// only what the profile has of the opcode, as an entry; then the lent numbers stay.
 fn step_at(
     tags: &mut [u32; 256],
     state: &mut [u8; 256],

@@ -6,7 +6,7 @@
 --   Tells yes word name  ==  the yes or no says whether the word is the name
 --   Names word w         ==  w is what the word names: a profile by its word, or nothing
 --   chosen_of given w    ==  what a program is told by so many arguments, its own name among them, where the first word
---                           names w: no word is the crate's profile, and two or more name nothing
+--                            names w: no word is the crate's profile, and two or more name nothing
 --   FULL                 ==  the word `full`
 --   Says word s          ==  s is what the word says to `why`: `full`, or what it names
 --   asks_by full w       ==  what is asked for where the other word, or the lack of it, names w
@@ -64,5 +64,5 @@ both_ask (Other w) Full = asks_by true w
 both_ask (Other w) (Other v) = Unclear
 
 abbrev pub asks_of : ℕ → Said → Said → Request
-asks_of given s u = cond (ltb given 2) (asks_by false (Named Crate)) (cond (ltb given 3) (one_asks s) (cond (ltb given 4)
-    (both_ask s u) Unclear))
+asks_of given s u = cond (ltb given 2) (asks_by false (Named Crate)) (cond (ltb given 3) (one_asks s)
+    (cond (ltb given 4) (both_ask s u) Unclear))

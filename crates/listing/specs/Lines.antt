@@ -8,9 +8,9 @@
 --                                   "Opcodes are four upper-case hex digits, the rest decimal"
 --   total_line count sum        ==  `total`, the number of retirements, the sum of their costs
 --   opcodes_of es               ==  the opcodes of the retirements among the events, in order
---   lines_from index ops ns     ==  a line for each retirement, with the opcodes ops and the costs ns, the first of them
---                                  with this index
---                                  "the index counts retirements from 0"
+--   lines_from index ops ns     ==  a line for each retirement, with the opcodes ops and the costs ns, the first of
+--                                   them with this index
+--                                   "the index counts retirements from 0"
 use Rattle.std.specs.Prelude.{ℕ, ◌+◌, List, [], ◌∷◌, ◌++◌}
 use Rattle.text.specs.Written.{text_of, newline}
 use Rattle.text.specs.Decimal.{decimal_of}
@@ -21,7 +21,8 @@ use Rattle.refusals.specs.declared.Refusal.{Refusal}
 use Rattle.refusals.specs.Refusals.{number_of, place_of}
 
 abbrev pub refusal_line : Refusal → List ℕ
-refusal_line refusal = text_of "refused " ++ decimal_of (number_of refusal) ++ text_of " at " ++ decimal_of (place_of refusal)
+refusal_line refusal =
+    text_of "refused " ++ decimal_of (number_of refusal) ++ text_of " at " ++ decimal_of (place_of refusal)
     ++ newline
 
 abbrev pub header_line : List ℕ

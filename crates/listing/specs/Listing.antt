@@ -4,7 +4,7 @@
 --   short_trace_of trace              ==  what the trace says: its events, or its refusal
 --                                         "reads a trace of at most 65,536 bytes"; "`refused 1 at 0` for longer input"
 --   table_of p es t                   ==  the output for the events of a trace that is accepted: the header, a line for
---                                        each retirement, the total
+--                                         each retirement, the total
 --   text_by p said t                  ==  the output by what the trace said
 --                                         "A refusal is its whole output"
 --   timing_by p said t                ==  the next state by what the trace said

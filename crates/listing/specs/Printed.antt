@@ -1,9 +1,9 @@
 -- The text of a trace that was run: the lines of a trace whose costs stand in bytes, and the whole by the verdict of
 -- its run.
 --
---   lines_read index bytes es         ==  a line for each retirement among the events, the first of them with this
+--   lines_read index bytes es        ==  a line for each retirement among the events, the first of them with this
 --                                        index; each cost is the number that stands in the bytes at 4 times the index
---   lines_of index bytes said         ==  the same by what a trace said; a refused trace has none
+--   lines_of index bytes said        ==  the same by what a trace said; a refused trace has none
 --   Ready v trace bytes room         ==  so many lent bytes have room for the text by the verdict v; where the trace is
 --                                        accepted, a cost stands in the bytes for each of its retirements
 --   printed v trace bytes count sum  ==  the text by the verdict v: the refusal, or the whole table

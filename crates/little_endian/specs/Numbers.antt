@@ -1,10 +1,10 @@
 -- Document 01, "Records and images": "little-endian", the lowest byte first. The Rust has none.
 --
 --   number_at k s at     ==  the number that the k bytes of s from the place `at` on stand for
---                           "A record is a 2-byte payload length, .. little-endian"
+--                            "A record is a 2-byte payload length, .. little-endian"
 --   numbers_at n k s at  ==  n numbers of k bytes each, the first at the place `at`
 --   bytes_of k n         ==  the k bytes of the number n
---                           "Costs in bytes are little-endian"
+--                            "Costs in bytes are little-endian"
 --   bytes_of_each k ns   ==  the k bytes of each number of the list ns, one number behind the other
 --   put_at s at bs       ==  the list s with the bytes bs from the place `at` on, all others as they were
 --   Below m s            ==  every number of the list s is below m: `Below 256 s` says that s is a list of bytes

@@ -9,8 +9,9 @@
 --   is_any c               ==  any of the twelve modes
 --   is_alterable c         ==  an alterable mode
 --   is_an c                ==  address register direct
---   Operand                ==  an operand: its category; `itself`, the register that it is, if it is one; `pointed`, the
---                              registers that are read to reach it; `stepped`, the register that (An)+ and -(An) write
+--   Operand                ==  an operand: its category; `itself`, the register that it is, if it is one; `pointed`,
+--                              the registers that are read to reach it; `stepped`, the register that (An)+ and -(An)
+--                              write
 --   operand c i p s        ==  the operand of this category, itself i, with p read to reach it and s written
 --   operand_rows mode reg  ==  the modes, by three bits of mode and three of register. An index may be any register,
 --                              since the extension word names it

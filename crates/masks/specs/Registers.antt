@@ -1,7 +1,7 @@
 -- Document 01, part 3, "Masks": sets of registers and their masks. The Rust: the bits of the masks of reg_masks_060.
 --
---   Regs            ==  a set of registers: a test that says of each number whether the register of that number is in the
---                       set
+--   Regs            ==  a set of registers: a test that says of each number whether the register of that number is in
+--                       the set
 --   register n      ==  the register of number n alone
 --   D n             ==  the data register Dn alone, number n          "D0 to D7 bits 0 to 7"
 --   A n             ==  the address register An alone, number 8 + n   "A0 to A7 bits 8 to 15"

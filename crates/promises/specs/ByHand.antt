@@ -9,8 +9,8 @@
 --                                 nothing, which is x
 --   Batch                     ==  what `run_batch` is handed: the lent records, the two lent runs for costs and
 --                                 answers, and the state with its profile
---   BatchAllows b ran x       ==  `run_batch`, handed b, may return ran and leave the two runs x: both as `batch_of` has
---                                 them
+--   BatchAllows b ran x       ==  `run_batch`, handed b, may return ran and leave the two runs x: both as `batch_of`
+--                                 has them
 --   BatchOf64                 ==  what `run_batch_of_64` is handed: its 64 records, how many of them to run, the two
 --                                 lent runs, and the state with its profile
 --   BatchOf64Allows b ran x   ==  `run_batch_of_64`, handed b, may return ran and leave the two runs x: both as

@@ -1,11 +1,11 @@
 -- The tender's demand 3, over any board: "Reason: time must move."
 --
---   Sound B    ==  what demand 3 needs of a board: every class word has at least 1 clock, exactly 1 in class 0, and no
---                  BRANCH word is in class 0
+--   Sound B     ==  what demand 3 needs of a board: every class word has at least 1 clock, exactly 1 in class 0, and no
+--                   BRANCH word is in class 0
 --   is_taken p  ==  the cache predicts taken
---   joins s r  ==  "keeps the flow and passes the dispatch test"
---   folds s r  ==  "is a cached, correctly predicted taken branch with the branch cache on"
---   Demand3 B  ==  the demand, sentence by sentence
+--   joins s r   ==  "keeps the flow and passes the dispatch test"
+--   folds s r   ==  "is a cached, correctly predicted taken branch with the branch cache on"
+--   Demand3 B   ==  the demand, sentence by sentence
 --
 -- A sequence of events is any list of retirements, breaks and clears, from any state: "in any sequence with no state
 -- loaded between".

@@ -37,7 +37,8 @@ pub record EveryImage : Type 0 where
   pub old_written_again : (lent : List ℕ) → image_length ≤ length lent → (s : List ℕ) → Below 256 s
       → length s ≡ old_length
       → image_verdict_of s ≡ Accepted
-      → take image_length (image_write_of (image_read_of s).timing lent).lent ≡ header_bytes ++ drop 4 s ++ replicate 6 0
+      → take image_length (image_write_of (image_read_of s).timing lent).lent
+      ≡ header_bytes ++ drop 4 s ++ replicate 6 0
   -- "Old kind 16 images are still read, head fields zero"
   pub old_head : (s : List ℕ) → length s ≡ old_length
       → ((image_read_of s).timing.window.op ≡ 0) × ((image_read_of s).timing.window.address ≡ 0)

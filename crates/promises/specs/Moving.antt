@@ -58,7 +58,8 @@ pub record TimeMoves (p : Profile) : Type 0 where
   pub batch_shut : (rs : List Retirement) (lent : Runs) (t : Oep060Timing) → t.window.opened ≡ false
       → ((batch_of p rs lent t).ran.count + 1) / 2 ≤ (batch_of p rs lent t).ran.total
   -- "a retirement costs 0 exactly when the window was open and it either .. or ..": each cost in the lent places
-  pub trace_zero : (trace : List ℕ) (lent : Runs) (t : Oep060Timing) (es : List Event) → Accepts trace (rooms_of lent) es
+  pub trace_zero : (trace : List ℕ) (lent : Runs) (t : Oep060Timing) (es : List Event)
+      → Accepts trace (rooms_of lent) es
       → map is_zero (numbers_at (count_of es) 4 (run_trace_of p trace lent t).lent.costs 0) ≡ map (is_free p)
       (meetings p (state_of (seen_of t)) es)
   pub batch_zero : (rs : List Retirement) (lent : Runs) (t : Oep060Timing)

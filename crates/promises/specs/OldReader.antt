@@ -7,8 +7,8 @@
 --   old_window_wrong s   ==  "open above 1, a bit above 2, or a shut window not zero"
 --   old_verdict_of s     ==  the old reader's verdict on an image
 --                            "image not 1,288 bytes"; "Image reading: 8, 9, 10"
---   old_window_of s      ==  the window that it reads: open is 1; the def mask; "0 CCR, 1 memory, 2 cached"; it knows no
---                            head's opcode and address, for which zeros stand here
+--   old_window_of s      ==  the window that it reads: open is 1; the def mask; "0 CCR, 1 memory, 2 cached"; it knows
+--                            no head's opcode and address, for which zeros stand here
 --   old_state_of s       ==  the state that it reads
 --   old_timing_by v s    ==  that, or "a fresh state (zeros, window shut)" where it refuses
 --   old_read_of s        ==  its whole answer
@@ -60,7 +60,8 @@ old_window_of s =
     }
 
 abbrev pub old_state_of : List ℕ → Oep060Timing
-old_state_of s = record { cache = record { tags = image_tags_of s; state = image_slots_of s }; window = old_window_of s }
+old_state_of s =
+    record { cache = record { tags = image_tags_of s; state = image_slots_of s }; window = old_window_of s }
 
 abbrev pub old_timing_by : Verdict → List ℕ → Oep060Timing
 old_timing_by Accepted s = old_state_of s

@@ -16,7 +16,8 @@
 --   old_run_trace_of p trace lent t      ==  the outcome of a run of the trace into the lent bytes from the state t
 --   old_batch_verdict_of n m             ==  the verdict on n records with m places
 --   old_batch_outcome ran ps             ==  what is returned, and every lent place afterwards
---   old_batch_accepted_of p rs ps t      ==  the records rs run from the state t, as it is read, with the lent places ps
+--   old_batch_accepted_of p rs ps t      ==  the records rs run from the state t, as it is read, with the lent places
+--                                            ps
 --   old_batch_outcome_by p v rs ps t     ==  by the verdict: run; or refused
 --   old_batch_of p rs ps t               ==  the batch of the records rs with the lent places ps from the state t
 --   old_host_outcome ran places l        ==  what a host is given, together with every lent number afterwards
@@ -26,8 +27,8 @@
 --   without_answers o                    ==  of what a host is given, what it was given before
 --   has_room said n                      ==  a second run of n bytes has room for what the trace said: one byte a
 --                                            retirement
---   OldRuns p                            ==  the facts: wherever the second run has room, all of it is as it was; and what
---                                            was refused before is refused so whatever room the second run has
+--   OldRuns p                            ==  the facts: wherever the second run has room, all of it is as it was; and
+--                                            what was refused before is refused so whatever room the second run has
 use Rattle.std.specs.Prelude.{ℕ, ◌*◌, ◌≡◌, Bool, true, false, not, cond, List, ◌++◌, ltb, length, drop}
 use Rattle.little_endian.specs.Numbers.{put_at}
 use Rattle.class_word.specs.declared.Clocks.{Clocks}

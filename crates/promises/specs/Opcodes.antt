@@ -1,7 +1,7 @@
 -- Document 01, "Facts to reproduce, surprising ones included": what holds of every opcode's class word.
 --
---   Fits w        ==  the word keeps to the layout: 16 bits, and class, clocks and flags make it up
---   EveryOpcode   ==  the facts, each for every opcode
+--   Fits w       ==  the word keeps to the layout: 16 bits, and class, clocks and flags make it up
+--   EveryOpcode  ==  the facts, each for every opcode
 use Rattle.std.specs.Prelude.{ℕ, ◌≤◌, ◌<◌, ◌≡◌, true, false, ◌&&◌}
 use Rattle.class_word.specs.Word.{word_of, class_of, clocks_of, flags_of, has, BRANCH, VARIABLE, EA_INDEXED}
 use Rattle.classifier.specs.Classify.{classify_of}

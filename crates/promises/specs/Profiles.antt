@@ -1,6 +1,7 @@
 -- Document 02, R-4: what holds of the mended profile, and what does not hold of the crate's.
 --
---   another_register r op  ==  the class word of the same opcode with register r in bits 9 to 11, in the crate's profile
+--   another_register r op  ==  the class word of the same opcode with register r in bits 9 to 11, in the crate's
+--                              profile
 --   MendedProfile          ==  the facts
 use Rattle.std.specs.Prelude.{ℕ, ◌<◌, ◌≡◌, true, false, ◌||◌}
 use Rattle.class_word.specs.Word.{info}

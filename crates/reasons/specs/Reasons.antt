@@ -9,7 +9,8 @@
 --   of_rule rule                         ==  the reason that this rule of the dispatch test failed
 --   dispatched d                         ==  "paired .. or the first dispatch rule that failed, in document 01's order"
 --   other_reason i k w                   ==  "Other than branches and flow: paired, window shut, or the first dispatch
---                                            rule that failed"; `failing`, which the dispatch test reads, names the rule
+--                                            rule that failed"; `failing`, which the dispatch test reads, names the
+--                                            rule
 --   asked_reason predicted taken opened  ==  a branch of which the cache was asked
 --                                            "folded, predicted but alone, rightly not taken, mispredicted"
 --   branch_reason taken opened a         ==  the same by the cache's answer

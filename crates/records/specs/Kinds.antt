@@ -7,7 +7,7 @@
 --   kinds                ==  the kinds of a trace's records, all of them
 --   kind_in some n       ==  the kind among some whose number is n; Unknown if none has it
 --   kind_of n            ==  the kind whose number is n; Unknown if none has it
---                           "kind not 1 to 4"
+--                            "kind not 1 to 4"
 use Rattle.std.specs.Prelude.{ℕ, cond, List, [], ◌∷◌, eqb}
 use Rattle.records.specs.declared.kinds.Kind.{Kind}
 use Rattle.records.specs.declared.kinds.Kind.TheVariants.{Retirement, Break, ClearAll, ClearUser}

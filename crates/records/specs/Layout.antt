@@ -4,7 +4,7 @@
 -- `at` is the place in the trace where the record starts.
 --   length_at trace at      ==  the payload length that the record names
 --   kind_at trace at        ==  the number of the kind that it names
---                              "A record is a 2-byte payload length, a 2-byte kind, then the payload, little-endian"
+--                               "A record is a 2-byte payload length, a 2-byte kind, then the payload, little-endian"
 --   opcode_at trace at      ==  the opcode in a retirement's payload
 --                               "opcode 2, flags 2, ppc 4, pc 4, raw 4 signed"
 --   flags_at trace at       ==  the flags

@@ -9,7 +9,7 @@
 --                                `fault_at` of Faults
 --   body_at trace at kind    ==  the same for the kind as it was read; refusal 3 where it is Unknown
 --   whole_at trace at        ==  a whole retirement stands at the place: its length and its kind are right, and all its
---                               bytes are there
+--                                bytes are there
 --   sound_at trace at        ==  a whole retirement stands there, and has no flag above bit 4: it is not refused
 --   read_at trace at         ==  what stands at the place: the trace's end, or refusal 2, or the record
 --   Unrefused trace at       ==  what stands at the place is not refused

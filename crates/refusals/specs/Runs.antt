@@ -7,7 +7,7 @@
 --   runs costs answers   ==  these two
 --   Rooms                ==  how long the two are
 --   rooms costs answers  ==  these two lengths
---   rooms_of lent         ==  the lengths of two lent runs
+--   rooms_of lent        ==  the lengths of two lent runs
 use Rattle.std.specs.Prelude.{ℕ, List, length}
 
 pub record Runs : Type 0 where

@@ -1,10 +1,10 @@
 -- What `rule_page` prints. Document 02, R-3: "A page is printed from it."
 --
---   Page    ==  the whole page: read it first
---   Lines   ==  its lines
---   Names   ==  the names of operand modes and of flags
---   Each    ==  texts of numbers, one behind the other
---   Inner   ==  what the functions inside answer; nothing of it enters the promise of `put_page`
+--   Page   ==  the whole page: read it first
+--   Lines  ==  its lines
+--   Names  ==  the names of operand modes and of flags
+--   Each   ==  texts of numbers, one behind the other
+--   Inner  ==  what the functions inside answer; nothing of it enters the promise of `put_page`
 pub mod Page
 pub mod Lines
 pub mod Names

@@ -40,7 +40,8 @@ abbrev pub row_text : ℕ → List ℕ
 row_text row = cond (begins row) (run_begins row) [] ++ cond (ends row) (run_ends row) []
 
 unfoldable pub heading_line : ℕ → List ℕ
-heading_line n = newline ++ decimal_of n ++ text_of " " ++ text_of (name_of n) ++ text_of ": " ++ text_of (sentence_of n)
+heading_line n =
+    newline ++ decimal_of n ++ text_of " " ++ text_of (name_of n) ++ text_of ": " ++ text_of (sentence_of n)
     ++ newline
 
 unfoldable pub word_text : ℕ → List ℕ
@@ -51,4 +52,5 @@ abbrev pub mode_line : ℕ → ℕ → List ℕ
 mode_line n m = text_of "  " ++ text_of (mode_name m) ++ word_text (finish_of n (six_at m)) ++ newline
 
 unfoldable pub closing_line : List ℕ
-closing_line = newline ++ decimal_of row_count ++ text_of " rows, " ++ decimal_of rule_count ++ text_of " rules" ++ newline
+closing_line =
+    newline ++ decimal_of row_count ++ text_of " rows, " ++ decimal_of rule_count ++ text_of " rules" ++ newline

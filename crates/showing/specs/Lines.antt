@@ -11,7 +11,7 @@
 --   header_line        ==  the names of the columns
 --   end_line size      ==  `end`, and the length of the trace in bytes
 --   lines_from at es   ==  a line for each of the events, whose records follow each other, the first at the place `at`;
---                         `next_place` of the records is the place after a record of a kind
+--                          `next_place` of the records is the place after a record of a kind
 use Rattle.std.specs.Prelude.{ℕ, Bool, cond, List, [], ◌∷◌, ◌++◌}
 use Prim.Native.Char.{Char, code}
 use Rattle.text.specs.Written.{text_of, newline}

@@ -27,7 +27,7 @@
 --                         document 02, R-5: "one byte a retirement .. 0 to 3 in this order, 0 for non-branches"
 --   total ns          ==  their sum
 --   count_of es       ==  how many of the events are retirements
---                        "the number of retirements"
+--                         "the number of retirements"
 use Rattle.std.specs.Prelude.{ℕ, suc, ◌+◌, Bool, not, cond, ◌&&◌, List, [], ◌∷◌, map}
 use Rattle.class_word.specs.Word.{has, BRANCH}
 use Rattle.branch_cache.specs.declared.slot.Predicted.{Predicted}

@@ -1,10 +1,10 @@
 -- Document 01, "Worked instructions": "Whole output". Text is a list of characters, each as the number of its byte.
 --
 --   text_of quoted           ==  the characters of a quoted text
---   newline                 ==  the end of a line
---   Written                 ==  what a function that writes text answers, the place behind the text, together with the
---                               lent bytes afterwards
---   written next lent       ==  the two together
+--   newline                  ==  the end of a line
+--   Written                  ==  what a function that writes text answers, the place behind the text, together with the
+--                                lent bytes afterwards
+--   written next lent        ==  the two together
 --   written_of lent at text  ==  the text put into the lent bytes from the place `at` on, all others as they were
 use Rattle.std.specs.Prelude.{ℕ, ◌+◌, List, [], ◌∷◌, length}
 use Prim.Native.Char.{code}
