@@ -7,27 +7,16 @@ ghost use Rattle.std.specs.Prelude.{◌<◌};
 
 use std::io;
 
-// One line, 20 bytes with its end.
+// One line, 20 bytes with its end: four words, a blank before each but the first.
 fn line(op: u16) -> [u8; 20] {
-    let info = classifier::info_060(op);
     let masks = masks::reg_masks_060(op);
-    let o = text::hex4(op);
-    let w = text::hex4(info.0);
-    let u = text::hex4(masks.uses);
-    let d = text::hex4(masks.defs);
-    [
-        o[0], o[1], o[2], o[3], b' ', w[0], w[1], w[2], w[3], b' ', u[0], u[1], u[2], u[3], b' ',
-        d[0], d[1], d[2], d[3], b'\n',
-    ]
-}
-
-fn put(page: &mut [u8; 5120], low: u16, text: [u8; 20])
-    requires { low < 256 }
-{
-    let at = low as usize * 20;
-    for j in 0..20 {
-        page[at + j] = text[j];
+    let words = [op, classifier::info_060(op).0, masks.uses, masks.defs];
+    let mut line = [b' '; 20];
+    for (i, word) in words.iter().enumerate() {
+        text::put_hex::<4>(&mut line, 5 * i, *word as u32);
     }
+    line[19] = b'\n';
+    line
 }
 
 // The lines of the 256 opcodes with these upper eight bits.
@@ -36,7 +25,8 @@ fn page(high: u16) -> [u8; 5120]
 {
     let mut page = [0u8; 5120];
     for low in 0..256 {
-        put(&mut page, low, line(high * 256 + low));
+        let at = low as usize * 20;
+        page[at..at + 20].copy_from_slice(&line(high * 256 + low));
     }
     page
 }

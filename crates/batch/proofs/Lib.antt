@@ -1,4 +1,3 @@
 pub mod Refusals
 pub mod Run
-pub mod Places
 pub mod Loop

@@ -1,125 +1,110 @@
--- What the loop of the batch keeps, over plain values: of the first m records, what is left to run, run from here,
--- gives what the whole gives.
---     Now              what holds before a turn, of the place i, what is carried, the costs and the answers
---     came             how far a batch is once its records are run
---     onward, all_run  one record further; and what is known once none is left
-use mathlib.Core.Path.{◌≡◌, sym, ◌∙◌, ap, subst}
-use Prim.Native.Nat.{ℕ, suc, ◌+◌, ◌*◌, ◌<◌, ◌≤◌}
-use mathlib.Core.List.{◌∷◌, ◌++◌, List}
-use lib.ListN.{length, get_or, take, drop}
-use lib.Seq.{drop-length, drop-cons, drop-set-lt, length-take-le, get_or-take}
+-- What the loop of a batch keeps, over plain values: the records that are left, run from here, give what all of them
+-- give from the start. The batch of words (`host`) keeps the same.
+--     rest_of    what the records that are left come to, behind the costs and answers that stand
+--     rest_turn  one record further; `rest_next` the same by its index
+--     rest_none  no record is left; `batch_ends` the outcome then
+use mathlib.Core.Path.{◌≡◌, sym, ap, ◌∙◌}
+use mathlib.Core.List.{List, [], ◌∷◌, ◌++◌, append-nil}
+use Prim.Native.Nat.{ℕ, suc, ◌+◌, ◌<◌}
+use native.Mathlib.Omega.{arith}
+use native.Mathlib.Numerals.{add-one}
+use lib.ListN.{length, get_or, set, take, drop, take-append-drop}
+use lib.Seq.{take-suc-set, append_snoc, drop-set-lt, drop-cons}
 use Rattle.cost.specs.Branch.{answer_number}
+use Rattle.profile.specs.declared.Profile.{Profile}
 use Rattle.state.specs.declared.Retirement.{Retirement}
+use Rattle.state.specs.declared.Oep060Timing.{Oep060Timing}
 use Rattle.state.specs.declared.Stepped.{Stepped}
-use Rattle.state.specs.Events.{total as sum}
-use Rattle.step.specs.declared.Chosen.{Chosen}
+use Rattle.state.specs.Events.{total}
+use Rattle.state.specs.Timing.{seen_of}
+use Rattle.step.specs.Boards.{stepped_of}
 use Rattle.refusals.specs.Runs.{Runs, runs}
-use Rattle.batch.specs.declared.Carried.{Carried}
-use Rattle.batch.specs.Turning.{Reached, reached, pay_of}
-use Rattle.batch.proofs.Run.{end_of, paid_of, told_of, step_of, past}
-use Rattle.batch.proofs.Run.{end_none, paid_none, told_none, end_first, paid_first, told_first}
-use Rattle.batch.proofs.Places.{no_more_left, regroup, nothing_added, one_more, one_further, all_there}
+use Rattle.refusals.specs.Verdict.{accepted}
+use Rattle.batch.specs.Batch.{batch_outcome, batch_accepted_of}
+use Rattle.batch.proofs.Run.{end_of, paid_of, told_of, end_none, paid_none, told_none, end_first, paid_first, told_first}
 
--- the carried is c, the costs are cs and the answers ns, where the two runs came as lent
-pub record Now (m : ℕ) (rs : List Retirement) (s : Chosen) (lent : Runs)
-    (i : ℕ) (c : Carried) (cs ns : List ℕ) : Type 0 where
-  pub bound : i ≤ m
-  pub after : end_of c.chosen (drop i (take m rs)) ≡ end_of s (take m rs)
-  pub cost : take i cs ++ paid_of c.chosen (drop i (take m rs)) ≡ paid_of s (take m rs)
-  pub answer : take i ns ++ told_of c.chosen (drop i (take m rs)) ≡ told_of s (take m rs)
-  pub total : c.total + sum (paid_of c.chosen (drop i (take m rs))) ≡ sum (paid_of s (take m rs))
-  pub beyond : drop m cs ≡ drop m lent.costs
-  pub beyond' : drop m ns ≡ drop m lent.answers
-  pub small : c.total ≤ i * 4294967295
+-- how far a batch is
+pub record Reached : Type 0 where
+  pub timing : Oep060Timing
+  pub total : ℕ
+  pub lent : Runs
 
--- how far a batch is, by its parts
-abbrev far : Chosen → ℕ → List ℕ → List ℕ → Reached
-far x n cs ns = record { chosen = x; total = n; lent = runs cs ns }
+abbrev pub reached : Oep060Timing → ℕ → List ℕ → List ℕ → Reached
+reached t n cs ns = record { timing = t; total = n; lent = runs cs ns }
 
--- how far a batch is once the records go are run from x, n of them, with the two runs as lent
-abbrev pub came : Chosen → List Retirement → ℕ → Runs → Reached
-came x go n lent =
-    far
-    (end_of x go)
-    (sum (paid_of x go))
-    (paid_of x go ++ drop n lent.costs)
-    (told_of x go ++ drop n lent.answers)
+-- i costs and answers stand in the two runs, and n is the costs' sum: what the records rs, run from the state t, make
+-- of that
+abbrev pub rest_of : Profile → ℕ → ℕ → Runs → Oep060Timing → List Retirement → Reached
+rest_of p i n lent t rs =
+    reached
+    (end_of p t rs)
+    (n + total (paid_of p t rs))
+    (take i lent.costs ++ paid_of p t rs ++ drop (i + length rs) lent.costs)
+    (take i lent.answers ++ told_of p t rs ++ drop (i + length rs) lent.answers)
 
-same : {x y : Chosen} → x ≡ y → {k n : ℕ} → k ≡ n → {cs ps : List ℕ} → cs ≡ ps → {ns bs : List ℕ} → ns ≡ bs
-    → far x k cs ns ≡ far y n ps bs
-same {x} {y} e {k} {n} f {cs} {ps} g {ns} {bs} h =
-    ap (λ (z : Chosen). far z k cs ns) e
-    ∙ ap (λ (j : ℕ). far y j cs ns) f
-    ∙ ap (λ (qs : List ℕ). far y n qs ns) g
-    ∙ ap (λ (qs : List ℕ). far y n ps qs) h
+same : {t u : Oep060Timing} {n m : ℕ} {cs ds ns ms : List ℕ} → t ≡ u → n ≡ m → cs ≡ ds → ns ≡ ms
+    → reached t n cs ns ≡ reached u m ds ms
+same e f g h = rw (e, f, g, h)
 
-module _ {m : ℕ} {rs : List Retirement} {s : Chosen} {lent : Runs} (here : m ≤ length rs)
-    {i : ℕ} {c : Carried} {cs ns : List ℕ} (now : Now m rs s lent i c cs ns) where
-  -- what is left begins with the record; `none` stands for what lies past the end
-  begins_with : (none : Retirement) → i < m → drop i (take m rs) ≡ get_or rs i none ∷ drop (suc i) (take m rs)
-  begins_with none l =
-      drop-cons (take m rs) i none (subst (λ (k : ℕ). i < k) (sym (length-take-le m rs here)) l)
-      ∙ ap (λ (r : Retirement). r ∷ drop (suc i) (take m rs)) (get_or-take m rs i none l)
+-- a number put in place i, and the later ones behind it
+placed : (cs : List ℕ) (i x k : ℕ) (later : List ℕ) → i < length cs
+    → take (suc i) (set cs i x) ++ later ++ drop (suc i + k) (set cs i x)
+    ≡ take i cs ++ (x ∷ later) ++ drop (i + suc k) cs
+placed cs i x k later h =
+    let after : i < suc i + k = omega arith in
+    let next : suc i + k ≡ i + suc k = omega arith in
+    rw (take-suc-set cs i x h, append_snoc (take i cs) x later, drop-set-lt (suc i + k) cs i x after, next)
 
-  -- a record is run: x is its step, and d, ys and zs are what `pay` leaves
-  pub onward : (none : Retirement) {x : Stepped} {d : Carried} {ys zs : List ℕ} → i < m
-      → i < length cs
-      → i < length ns
-      → x ≡ step_of c.chosen (get_or rs i none)
-      → reached d (runs ys zs) ≡ pay_of (runs cs ns) i c x
-      → d.total ≤ (i + 1) * 4294967295
-      → Now m rs s lent (i + 1) d ys zs
-  onward none {x} {d} {ys} {zs} l k k' e f g =
-      let r = get_or rs i none in
-      let step = step_of c.chosen r in
-      let paid = step.cost.0 in
-      let told = answer_number step.answer in
-      let rest = drop (suc i) (take m rs) in
-      let next = past c.chosen step in
-      let later = paid_of next rest in
-      let further = f ∙ ap (λ (y : Stepped). pay_of (runs cs ns) i c y) e in
-      let state = ap (λ (p : Reached). p.chosen) further in
-      let places = ap (λ (p : Reached). p.lent.costs) further in
-      let bytes = ap (λ (p : Reached). p.lent.answers) further in
-      let back = sym (begins_with none l) in
-      subst
-      (λ (j : ℕ). Now m rs s lent j d ys zs)
-      (sym (one_more i))
-      (record {
-        bound = l;
-        after = ap (λ (u : Chosen). end_of u rest) state ∙ sym (end_first c.chosen r rest)
-            ∙ ap (λ (rs : List Retirement). end_of c.chosen rs) back ∙ now.after;
-        cost = ap (λ (u : Chosen). take (suc i) ys ++ paid_of u rest) state
-            ∙ one_further i paid cs ys later (paid_of s (take m rs)) k places
-            (ap (λ (ps : List ℕ). take i cs ++ ps) (sym (paid_first c.chosen r rest))
-            ∙ ap (λ (rs : List Retirement). take i cs ++ paid_of c.chosen rs) back ∙ now.cost);
-        answer = ap (λ (u : Chosen). take (suc i) zs ++ told_of u rest) state
-            ∙ one_further i told ns zs (told_of next rest) (told_of s (take m rs)) k' bytes
-            (ap (λ (ps : List ℕ). take i ns ++ ps) (sym (told_first c.chosen r rest))
-            ∙ ap (λ (rs : List Retirement). take i ns ++ told_of c.chosen rs) back ∙ now.answer);
-        total = ap (λ (u : Chosen). d.total + sum (paid_of u rest)) state
-            ∙ ap (λ (n : ℕ). n + sum later) (ap (λ (p : Reached). p.total) further)
-            ∙ regroup c.total paid (sum later)
-            ∙ ap (λ (ps : List ℕ). c.total + sum ps) (sym (paid_first c.chosen r rest))
-            ∙ ap (λ (rs : List Retirement). c.total + sum (paid_of c.chosen rs)) back ∙ now.total;
-        beyond = ap (λ (ps : List ℕ). drop m ps) places ∙ drop-set-lt m cs i paid l ∙ now.beyond;
-        beyond' = ap (λ (ps : List ℕ). drop m ps) bytes ∙ drop-set-lt m ns i told l ∙ now.beyond';
-        small = subst (λ (j : ℕ). d.total ≤ j * 4294967295) (one_more i) g;
-      })
-
-  -- no record is left, and none was run twice: i is the count
-  pub all_run : m ≤ i → reached c (runs cs ns) ≡ came s (take m rs) m lent
-  all_run l =
-      let e = no_more_left i m now.bound l in
-      let left = drop i (take m rs) in
-      let paid = paid_of s (take m rs) in
-      let told = told_of s (take m rs) in
-      let whole = e ∙ sym (length-take-le m rs here) in
-      let none_left = ap (λ (j : ℕ). drop j (take m rs)) whole ∙ drop-length (take m rs) in
-      let none_paid = ap (λ (rs : List Retirement). paid_of c.chosen rs) none_left ∙ paid_none c.chosen in
-      let none_told = ap (λ (rs : List Retirement). told_of c.chosen rs) none_left ∙ told_none c.chosen in
+module _ (p : Profile) where
+  -- a cost and an answer are put in place i
+  pub rest_turn : (i n : ℕ) (lent : Runs) (t : Oep060Timing) (r : Retirement) (rs : List Retirement)
+      → i < length lent.costs → i < length lent.answers
+      → let s = stepped_of p t r in
+      rest_of p (i + 1) (n + s.cost.0) (runs (set lent.costs i s.cost.0) (set lent.answers i (answer_number s.answer)))
+      s.timing rs
+      ≡ rest_of p i n lent t (r ∷ rs)
+  rest_turn i n lent t r rs h k =
+      let s : Stepped = stepped_of p t r in
+      let sum : n + s.cost.0 + total (paid_of p s.timing rs) ≡ n + (s.cost.0 + total (paid_of p s.timing rs)) =
+      omega arith in
       same
-      (sym (end_none c.chosen) ∙ ap (λ (rs : List Retirement). end_of c.chosen rs) (sym none_left) ∙ now.after)
-      (sym (nothing_added c.total) ∙ ap (λ (ps : List ℕ). c.total + sum ps) (sym none_paid) ∙ now.total)
-      (all_there i m cs lent.costs (paid_of c.chosen left) paid e none_paid now.cost now.beyond)
-      (all_there i m ns lent.answers (told_of c.chosen left) told e none_told now.answer now.beyond')
+      (sym (end_first p t r rs))
+      (sum ∙ ap (λ (ns : List ℕ). n + total ns) (sym (paid_first p t r rs)))
+      (rw (add-one, paid_first p t r rs) (placed lent.costs i s.cost.0 (length rs) (paid_of p s.timing rs) h))
+      (rw (add-one, told_first p t r rs)
+      (placed lent.answers i (answer_number s.answer) (length rs) (told_of p s.timing rs) k))
+
+  pub rest_next : (i n : ℕ) (lent : Runs) (t : Oep060Timing) (rs : List Retirement) (none : Retirement)
+      → i < length rs → i < length lent.costs → i < length lent.answers
+      → {s : Stepped} → s ≡ stepped_of p t (get_or rs i none)
+      → rest_of p (i + 1) (n + s.cost.0)
+      (runs (set lent.costs i s.cost.0) (set lent.answers i (answer_number s.answer))) s.timing (drop (i + 1) rs)
+      ≡ rest_of p i n lent t (drop i rs)
+  rest_next i n lent t rs none h k l e =
+      let here : get_or rs i none ∷ drop (i + 1) rs ≡ drop i rs = rw add-one (sym (drop-cons rs i none h)) in
+      rw e (rest_turn i n lent t (get_or rs i none) (drop (i + 1) rs) k l)
+      ∙ ap (λ (rs : List Retirement). rest_of p i n lent t rs) here
+
+  pub rest_none : (i n : ℕ) (lent : Runs) (t : Oep060Timing)
+      → rest_of p i n lent t [] ≡ record { timing = t; total = n; lent = lent }
+  rest_none i n lent t =
+      let sum : n + 0 ≡ n = omega arith in
+      let here : i + 0 ≡ i = omega arith in
+      same
+      (end_none p t)
+      (rw paid_none sum)
+      (rw (paid_none, append-nil, here) (take-append-drop i lent.costs))
+      (rw (told_none, append-nil, here) (take-append-drop i lent.answers))
+
+  pub batch_ends : (i n : ℕ) (left lent : Runs) (t u : Oep060Timing) (rs : List Retirement) {none : List Retirement}
+      → none ≡ []
+      → rest_of p i n left t none ≡ rest_of p 0 0 lent (seen_of u) rs
+      → batch_outcome (record { verdict = accepted; count = length rs; total = n; timing = t }) left
+      ≡ batch_accepted_of p rs lent u
+  batch_ends i n left lent t u rs o e =
+      let sum : 0 + total (paid_of p (seen_of u) rs) ≡ total (paid_of p (seen_of u) rs) = omega arith in
+      let past : 0 + length rs ≡ length rs = omega arith in
+      ap (λ (r : Reached).
+      batch_outcome (record { verdict = accepted; count = length rs; total = r.total; timing = r.timing }) r.lent)
+      (sym (rest_none i n left t) ∙ ap (λ (rs : List Retirement). rest_of p i n left t rs) (sym o) ∙ e)
+      ∙ rw (sum, past)

@@ -11,7 +11,7 @@
 --                                      "A refused run or batch returns count 0, total 0 and the state it was given, and
 --                                      writes no byte"
 --   batch_of p rs lent t           ==  the batch of the records rs with the two lent runs from the state t
-use Rattle.std.specs.Prelude.{List, map, ◌++◌, length, drop}
+use Rattle.std.specs.Prelude.{Err, List, map, Ok, ◌++◌, length, drop}
 use Rattle.profile.specs.declared.Profile.{Profile}
 use Rattle.state.specs.declared.Retirement.{Retirement}
 use Rattle.state.specs.declared.Event.{Event}
@@ -20,11 +20,10 @@ use Rattle.state.specs.declared.Oep060Timing.{Oep060Timing}
 use Rattle.state.specs.Events.{costs, answers, finally, total}
 use Rattle.step.specs.Boards.{board_of}
 use Rattle.state.specs.Timing.{state_of, timing_of, seen_of}
-use Rattle.refusals.specs.declared.Verdict.{Verdict}
-use Rattle.refusals.specs.declared.Verdict.TheVariants.{Accepted, Refused}
 use Rattle.refusals.specs.declared.outcome.Ran.{Ran}
 use Rattle.refusals.specs.Refused.{refused_of}
 use Rattle.refusals.specs.Runs.{Runs, runs, rooms_of}
+use Rattle.refusals.specs.Verdict.{Verdict, accepted}
 use Rattle.batch.specs.Judge.{batch_verdict_of}
 
 pub record BatchOutcome : Type 0 where
@@ -44,7 +43,7 @@ batch_accepted_of p rs lent t =
     let told = answers (board_of p) s (events_of rs) in
     batch_outcome
     (record {
-      verdict = Accepted;
+      verdict = accepted;
       count = length rs;
       total = total paid;
       timing = timing_of (finally (board_of p) s (events_of rs));
@@ -52,8 +51,8 @@ batch_accepted_of p rs lent t =
     (runs (paid ++ drop (length rs) lent.costs) (told ++ drop (length rs) lent.answers))
 
 abbrev pub batch_outcome_by : Profile → Verdict → List Retirement → Runs → Oep060Timing → BatchOutcome
-batch_outcome_by p Accepted rs lent t = batch_accepted_of p rs lent t
-batch_outcome_by p (Refused refusal) rs lent t = batch_outcome (refused_of refusal t) lent
+batch_outcome_by p (Ok done) rs lent t = batch_accepted_of p rs lent t
+batch_outcome_by p (Err refusal) rs lent t = batch_outcome (refused_of refusal t) lent
 
 unfoldable pub batch_of : Profile → List Retirement → Runs → Oep060Timing → BatchOutcome
 batch_of p rs lent t = batch_outcome_by p (batch_verdict_of (length rs) (rooms_of lent)) rs lent t

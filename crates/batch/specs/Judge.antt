@@ -4,14 +4,13 @@
 --                                "one place a record"; document 02, R-5: "7 also when that run is short"
 --   batch_verdict_of n room  ==  the verdict on n records
 --                                "Batch: 1, 7": over 1,048,576 records, then no room
-use Rattle.std.specs.Prelude.{ℕ, Bool, cond, ◌||◌, ltb}
+use Rattle.std.specs.Prelude.{ℕ, Bool, cond, ◌||◌, Err, ltb}
 use Rattle.refusals.specs.declared.Refusal.TheVariants.{Oversized, Room}
-use Rattle.refusals.specs.declared.Verdict.{Verdict}
-use Rattle.refusals.specs.declared.Verdict.TheVariants.{Accepted, Refused}
 use Rattle.refusals.specs.Runs.{Rooms}
+use Rattle.refusals.specs.Verdict.{Verdict, accepted}
 
 abbrev pub short : Rooms → ℕ → Bool
 short room n = ltb room.costs n || ltb room.answers n
 
 unfoldable pub batch_verdict_of : ℕ → Rooms → Verdict
-batch_verdict_of n room = cond (ltb 1048576 n) (Refused Oversized) (cond (short room n) (Refused (Room 0)) Accepted)
+batch_verdict_of n room = cond (ltb 1048576 n) (Err Oversized) (cond (short room n) (Err (Room 0)) accepted)

@@ -8,7 +8,7 @@ use lib.ListN.{length, get_or, replicate, length-set, length-replicate, length-m
 use lib.Seq.{set-get_or, get_or-set_same, get_or-set_other}
 use borrow.Author.Tests.{ne_eqb}
 use Rattle.branch_cache.specs.declared.slot.Slot.{Slot}
-use Rattle.branch_cache.specs.declared.slot.Predicted.TheVariants.{Miss}
+use Rattle.std.specs.Prelude.{None}
 use Rattle.branch_cache.specs.Slot.{valid_of, user_of, hit_of, update_of}
 use Rattle.branch_cache.proofs.SlotLaws.{slot_miss_predicts, slot_miss_keeps}
 use Rattle.branch_cache.specs.declared.BranchCache060.{BranchCache060}
@@ -44,10 +44,10 @@ put_lengths c n slot = (length-set c.tags n slot.tag, length-set c.state n slot.
 -- the cache at the branch at pc
 
 module _ (c : BranchCache060) (pc : ℕ) where
-  pub cache_miss_predicts : hit_of (slot_at c (slot_of pc)) pc ≡ false → cache_predict_of c pc ≡ Miss
+  pub cache_miss_predicts : hit_of (slot_at c (slot_of pc)) pc ≡ false → cache_predict_of c pc ≡ None
   cache_miss_predicts m = slot_miss_predicts (slot_at c (slot_of pc)) pc m
 
-  pub cache_foreign_misses : (slot_of (slot_at c (slot_of pc)).tag ≡ slot_of pc → ⊥) → cache_predict_of c pc ≡ Miss
+  pub cache_foreign_misses : (slot_of (slot_at c (slot_of pc)).tag ≡ slot_of pc → ⊥) → cache_predict_of c pc ≡ None
   cache_foreign_misses f = cache_miss_predicts (slot_foreign_misses (slot_at c (slot_of pc)) pc f)
 
   pub cache_miss_keeps : (user : Bool) → hit_of (slot_at c (slot_of pc)) pc ≡ false → cache_update_of c pc false user ≡ c

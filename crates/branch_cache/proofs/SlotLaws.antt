@@ -4,10 +4,10 @@ use mathlib.Core.Path.{◌≡◌}
 use mathlib.Core.Bool.{Bool, false}
 use Prim.Native.Nat.{ℕ}
 use Rattle.branch_cache.specs.declared.slot.Slot.{Slot}
-use Rattle.branch_cache.specs.declared.slot.Predicted.TheVariants.{Miss}
+use Rattle.std.specs.Prelude.{None}
 use Rattle.branch_cache.specs.Slot.{hit_of, predict_of, update_of}
 
-pub slot_miss_predicts : (slot : Slot) (pc : ℕ) → hit_of slot pc ≡ false → predict_of slot pc ≡ Miss
+pub slot_miss_predicts : (slot : Slot) (pc : ℕ) → hit_of slot pc ≡ false → predict_of slot pc ≡ None
 unfolding predict_of
 slot_miss_predicts slot pc m = simp m
 

@@ -18,9 +18,8 @@
 --                                        "tags and window stay"
 --   cache_fresh_of                   ==  the cache at the start, the Rust's default
 --                                        "a fresh state (zeros, window shut)"
-use Rattle.std.specs.Prelude.{ℕ, ◌/◌, ◌%◌, Bool, cond, List, map, get_or, set, replicate}
+use Rattle.std.specs.Prelude.{ℕ, ◌/◌, ◌%◌, Bool, cond, List, map, get_or, set, replicate, Option}
 use Rattle.branch_cache.specs.declared.slot.Slot.{Slot}
-use Rattle.branch_cache.specs.declared.slot.Predicted.{Predicted}
 use Rattle.branch_cache.specs.Slot.{user_of, predict_of, update_of}
 use Rattle.branch_cache.specs.declared.BranchCache060.{BranchCache060}
 
@@ -36,7 +35,7 @@ slot_put c n slot = record { tags = set c.tags n slot.tag; state = set c.state n
 abbrev pub slot_of : ℕ → ℕ
 slot_of pc = pc / 2 % 256
 
-abbrev pub cache_predict_of : BranchCache060 → ℕ → Predicted
+abbrev pub cache_predict_of : BranchCache060 → ℕ → Option Bool
 cache_predict_of c pc = predict_of (slot_at c (slot_of pc)) pc
 
 abbrev pub cache_update_of : BranchCache060 → ℕ → Bool → Bool → BranchCache060

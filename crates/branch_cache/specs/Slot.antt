@@ -14,17 +14,15 @@
 -- One slot, at the branch at pc:
 --   hit_of slot pc                  ==  the slot holds this branch
 --                                       "A hit needs valid and an equal full tag"
---   predict_of slot pc              ==  what a hit predicts; Miss where there is no hit
+--   predict_of slot pc              ==  whether a hit predicts taken; None where there is no hit
 --                                       "It predicts taken from counter 2 up"
 --   counter_after_of counter taken  ==  one up but not above 3 if taken, else one down but not below 0
 --                                       "the counter steps and stays within 0 to 3"
 --   update_of slot pc taken user    ==  the slot after the branch: on a hit the counter steps
 --                                       "A taken miss allocates with counter 2; a not-taken miss changes nothing"
-use Rattle.std.specs.Prelude.{ℕ, ◌+◌, ◌-◌, ◌*◌, ◌/◌, ◌%◌, min, Bool, true, cond, ◌&&◌, eqb, leb}
+use Rattle.std.specs.Prelude.{ℕ, ◌+◌, ◌-◌, ◌*◌, ◌/◌, ◌%◌, min, Bool, true, cond, ◌&&◌, eqb, leb, Option, Some, None}
 use Rattle.bits.specs.Words.{num, bit}
 use Rattle.branch_cache.specs.declared.slot.Slot.{Slot}
-use Rattle.branch_cache.specs.declared.slot.Predicted.{Predicted}
-use Rattle.branch_cache.specs.declared.slot.Predicted.TheVariants.{Miss, NotTaken, Taken}
 
 abbrev pub counter_of : ℕ → ℕ
 counter_of b = b % 4
@@ -44,8 +42,8 @@ higher_of b = b / 4 * 4
 abbrev pub hit_of : Slot → ℕ → Bool
 hit_of slot pc = valid_of slot.byte && eqb slot.tag pc
 
-unfoldable pub predict_of : Slot → ℕ → Predicted
-predict_of slot pc = cond (hit_of slot pc) (cond (leb 2 (counter_of slot.byte)) Taken NotTaken) Miss
+unfoldable pub predict_of : Slot → ℕ → Option Bool
+predict_of slot pc = cond (hit_of slot pc) (Some (leb 2 (counter_of slot.byte))) None
 
 -- `-` stops at 0, so that 0 less 1 is 0
 abbrev pub counter_after_of : ℕ → Bool → ℕ

@@ -19,10 +19,12 @@ ghost use Rattle.branch_cache.specs.Cache.{
 };
 
 use slot::BC_USER;
-pub use slot::{Predicted, Slot};
+pub use slot::Slot;
+use stored::slot_at;
 pub use stored::update_at;
 
 // Fixed arrays for the Rust's `Vec`s: no cache has a wrong length.
+// Stays two arrays: document 01 names a u32 array and a byte array, and the C interface lends each by itself.
 #[derive(Clone, Copy)]
 pub struct BranchCache060 {
     pub tags: [u32; 256],
@@ -56,25 +58,19 @@ impl BranchCache060 {
     pub fn clear_user(mut self) -> Self
         ensures { result ≡ clear_user_of self }
     {
-        let mut i: usize = 0;
-        while i < 256 {
-            if self.state[i] & BC_USER != 0 {
-                self.state[i] = 0;
+        for byte in self.state.iter_mut() {
+            if *byte & BC_USER != 0 {
+                *byte = 0;
             }
-            i += 1;
         }
         self
     }
 
-    pub fn predict(self, pc: u32) -> Predicted
+    pub fn predict(self, pc: u32) -> Option<bool>
         ensures { result ≡ cache_predict_of self pc }
     {
         let i = BranchCache060::slot(pc);
-        let slot = Slot {
-            tag: self.tags[i],
-            byte: self.state[i],
-        };
-        slot.predict(pc)
+        slot_at(&self.tags, &self.state, i).predict(pc)
     }
 
     // The next cache: its arrays are copied, and lent to what stores one slot.

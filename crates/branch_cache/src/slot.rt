@@ -9,34 +9,21 @@ pub struct Slot {
     pub byte: u8,
 }
 
-// The Rust's `Option<bool>`: no hit, or a hit that predicts.
-#[derive(Clone, Copy)]
-pub enum Predicted {
-    Miss,
-    NotTaken,
-    Taken,
-}
-
 pub const BC_VALID: u8 = 1 << 2;
 
 pub const BC_USER: u8 = 1 << 3;
 
 const BC_COUNTER: u8 = 0x03;
 
-// The Rust's `(counter + 1).min(3)` and `counter.saturating_sub(1)`.
+// One up where taken, else one down; it stays within 0 to 3.
 fn counter_after(counter: u8, taken: bool) -> u8
     ensures { result ≡ counter_after_of counter taken }
 {
     if taken {
-        if counter < 3 {
-            return counter + 1;
-        }
-        return 3;
+        counter.saturating_add(1).min(3)
+    } else {
+        counter.saturating_sub(1)
     }
-    if counter > 0 {
-        return counter - 1;
-    }
-    0
 }
 
 impl Slot {
@@ -46,20 +33,19 @@ impl Slot {
         self.byte & BC_VALID != 0 && self.tag == pc
     }
 
-    pub fn predict(self, pc: u32) -> Predicted
+    // On a hit whether it predicts taken; none on a miss.
+    #[tactic(auto, unfolding(crate::specs::Slot::predict_of), using(crate::proofs::Bytes::byte_counter))]
+    pub fn predict(self, pc: u32) -> Option<bool>
         ensures { result ≡ predict_of self pc }
     {
         if self.hit(pc) {
-            if self.byte & BC_COUNTER >= 2 {
-                Predicted::Taken
-            } else {
-                Predicted::NotTaken
-            }
+            Some(self.byte & BC_COUNTER >= 2)
         } else {
-            Predicted::Miss
+            None
         }
     }
 
+    #[tactic(auto, unfolding(crate::specs::Slot::update_of), using(crate::proofs::Bytes::byte_steps))]
     pub fn update(self, pc: u32, taken: bool, user: bool) -> Slot
         ensures { result ≡ update_of self pc taken user }
     {

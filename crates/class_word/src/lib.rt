@@ -9,7 +9,7 @@ ghost use Rattle.std.specs.Prelude.{◌≡◌};
 ghost use Rattle.class_word.specs.Word.{class_number, new_of, class_of, clocks_of, has, info, clocks};
 
 // The dispatch classes.
-#[derive(Clone, Copy)]
+#[derive(Clone, Copy, PartialEq, Eq)]
 pub enum OepClass {
     PoepSoep = 0,
     PoepOnly = 1,
@@ -18,11 +18,11 @@ pub enum OepClass {
 }
 
 // The entry of an opcode, packed: class(2) | clocks(5) | flags(9).
-#[derive(Clone, Copy)]
+#[derive(Clone, Copy, PartialEq, Eq)]
 pub struct Info060(pub u16);
 
 // A number of 68060 clocks.
-#[derive(Clone, Copy)]
+#[derive(Clone, Copy, PartialEq, Eq, PartialOrd, Ord)]
 pub struct Clocks(pub u32);
 
 const CLASS_SHIFT: u16 = 0;
@@ -50,14 +50,11 @@ pub const F_READS_MEM: u16 = 1 << 14;
 pub const F_WRITES_MEM: u16 = 1 << 15;
 
 // The Rust's `class as u16`.
-pub fn class_number(class: OepClass) -> u16
-    ensures { result ≡ class_number class }
-{
-    match class {
-        OepClass::PoepSoep => 0,
-        OepClass::PoepOnly => 1,
-        OepClass::PoepUntilLast => 2,
-        OepClass::PoepButAllowsSoep => 3,
+impl From<OepClass> for u16 {
+    ghost from_gives = { λ class number. number ≡ class_number class };
+
+    fn from(class: OepClass) -> u16 {
+        class as u16
     }
 }
 
@@ -65,10 +62,11 @@ impl Info060 {
     pub fn new(class: OepClass, cycles: u16, flags: u16) -> Self
         ensures { result ≡ info (new_of (class_number class) cycles flags) }
     {
-        let number = class_number(class);
+        let number = u16::from(class);
         Info060(number << CLASS_SHIFT | (cycles & CYCLES_MASK) << CYCLES_SHIFT | flags)
     }
 
+    // Stays a match on two bits: the form of document 01, and every word has a class.
     pub fn class(self) -> OepClass
         ensures { class_number result ≡ class_of self.0 }
     {

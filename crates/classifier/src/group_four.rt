@@ -1,8 +1,8 @@
 // Part 2 of document 01: the class words of group 4.
 //
 // The rows are many and their order counts, so each function takes some of them and hands on what is left: `group4`,
-// `group4_middle`, `group4_rest`, `group4_last`. The words come from `operand`. `classify_by_group`
-// and `profile` call `group4`.
+// `group4_middle`, `group4_rest`, `group4_last`. The words come from `operand`. `classify_by_group` and `profile` call
+// `group4`.
 ghost use Rattle.std.specs.Prelude.{◌≡◌, false, not, ◌&&◌};
 ghost use Rattle.bits.specs.Pattern.{matches};
 ghost use Rattle.bits.specs.Instructions.{data_register, size01, movem, nbcd_ext};
@@ -13,7 +13,7 @@ ghost use Rattle.class_word.specs.declared.OepClass.TheVariants.{PoepSoep};
 ghost use Rattle.classifier.specs.Entry.{ea, entry, entry_word, packed};
 ghost use Rattle.classifier.specs.Group4.{group4};
 
-use crate::operand::{alu_of, operand_flags, poep_only};
+use crate::operand::{alu, alu_of, operand_flags, poep_only};
 use class_word::{F_DEFINES_CCR, F_READS_MEM, F_VARIABLE, F_WRITES_MEM, Info060, OepClass};
 
 pub const MOVEM: u16 = F_VARIABLE | F_READS_MEM | F_WRITES_MEM;
@@ -51,7 +51,7 @@ fn group4_middle(op: u16) -> Info060
         return poep_only(2, MULL_DIVL);
     }
     if (op & 0x0FF8) == 0x0840 {
-        return Info060::new(OepClass::PoepSoep, 1, F_DEFINES_CCR);
+        return alu(0);
     }
     if is_nbcd_or_ext(op) {
         return alu_of(op, true, true);
@@ -59,6 +59,7 @@ fn group4_middle(op: u16) -> Info060
     group4_rest(op)
 }
 
+// Stays two functions, this and the next: one for both would take four masks and values, in no order that reads.
 fn is_movem(op: u16) -> bool
     ensures { result ≡ (matches movem op && not (matches data_register op)) }
 {

@@ -1,8 +1,7 @@
 // Part 2 of document 01: the class words of groups 8 to 14, but for group 10, which has no rows.
 //
 // Each group is one public function, whose tests are its rows in the order of the definition; groups 9 and 13 share
-// `add_sub`. The words come from `operand`. `classify_by_group` and `profile` choose
-// the group.
+// `add_sub`. The words come from `operand`. `classify_by_group` and `profile` choose the group.
 ghost use Rattle.std.specs.Prelude.{◌≡◌, true, ◌+◌};
 ghost use Rattle.bits.specs.Fields.{mode_of, reg_of};
 ghost use Rattle.bits.specs.Rows.{rows_after};
@@ -11,7 +10,7 @@ ghost use Rattle.class_word.specs.declared.OepClass.TheVariants.{PoepOnly};
 ghost use Rattle.classifier.specs.Entry.{ea, entry, entry_word, packed};
 ghost use Rattle.classifier.specs.HighGroups.{group8, add_sub, group11, group12, group14};
 
-use crate::operand::{alu_of, operand_flags, poep_only, unclassified};
+use crate::operand::{alu, alu_of, operand_flags, poep_only, unclassified};
 use class_word::{
     F_DEFINES_CCR, F_READS_MEM, F_USES_CCR_LATE, F_VARIABLE, F_WRITES_MEM, Info060, OepClass,
 };
@@ -99,6 +98,6 @@ pub fn group14(op: u16) -> Info060
     } else if (op & 0x0018) == 0x0010 {
         poep_only(1, EXTENDED)
     } else {
-        Info060::new(OepClass::PoepSoep, 1, F_DEFINES_CCR)
+        alu(0)
     }
 }

@@ -33,6 +33,7 @@ pub fn classify_060_opcode(op: u16) -> Info060
 }
 
 // The same by the groups.
+// Stays without a caller here: document 01 names a match on the top four bits, and docs/PROMISES.md has its promise.
 pub fn classify_by_group(op: u16) -> Info060
     ensures { result ≡ info (classify_of op) }
 {
@@ -53,6 +54,7 @@ pub fn classify_by_group(op: u16) -> Info060
 }
 
 // The Rust's table of 65,536 words becomes a call of the classifier.
+// Stays a second name: it is the Rust's, and README and docs/PROMISES.md name both.
 pub fn info_060(op: u16) -> Info060
     ensures { result ≡ info (classify_of op) }
 {

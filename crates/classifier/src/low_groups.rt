@@ -1,8 +1,7 @@
 // Part 2 of document 01: the class words of groups 0 to 7, but for group 4.
 //
 // Each group is one public function, whose tests are its rows in the order of the definition; groups 1 to 3 share
-// `move_060`. The words come from `operand`. `classify_by_group` and `profile` choose
-// the group.
+// `move_060`. The words come from `operand`. `classify_by_group` and `profile` choose the group.
 ghost use Rattle.std.specs.Prelude.{◌≡◌, true, false};
 ghost use Rattle.bits.specs.Fields.{mode_of, reg_of};
 ghost use Rattle.bits.specs.Rows.{rows_after};
@@ -11,7 +10,7 @@ ghost use Rattle.class_word.specs.declared.OepClass.TheVariants.{PoepSoep, PoepO
 ghost use Rattle.classifier.specs.Entry.{ea, entry, entry_word, packed};
 ghost use Rattle.classifier.specs.LowGroups.{bit_operation, group0, move, group5, group6, group7};
 
-use crate::operand::{alu_of, destination_flags, operand_flags, poep_only, unclassified};
+use crate::operand::{alu, alu_of, destination_flags, operand_flags, poep_only, unclassified};
 use class_word::{F_BRANCH, F_DBCC, F_DEFINES_CCR, F_USES_CCR_LATE, F_VARIABLE, Info060, OepClass};
 
 pub const DBCC: u16 = F_BRANCH | F_DBCC | F_USES_CCR_LATE;
@@ -63,11 +62,7 @@ pub fn move_060(op: u16) -> Info060
 {
     let source = operand_flags(op, true, false);
     let destination = destination_flags(op);
-    Info060::new(
-        OepClass::PoepSoep,
-        1,
-        F_DEFINES_CCR | (source | destination),
-    )
+    alu(source | destination)
 }
 
 pub fn scc(op: u16) -> Info060
@@ -102,8 +97,9 @@ pub fn group6(op: u16) -> Info060
     }
 }
 
+// Stays with an argument that it does not read: its clause names the opcode, as that of each group does.
 pub fn group7(_op: u16) -> Info060
     ensures { result ≡ packed (group7 _op) }
 {
-    Info060::new(OepClass::PoepSoep, 1, F_DEFINES_CCR)
+    alu(0)
 }

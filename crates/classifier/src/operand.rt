@@ -1,11 +1,12 @@
 // Part 2 of document 01: what an operand gives, and the entries that are made of it.
 //
-// `operand_flags` and `destination_flags` look an operand up in two tables of bits; `alu_of`, `unclassified` and
-// `poep_only` pack the entries that many rows share. The groups and `rules` are written over these.
-ghost use Rattle.std.specs.Prelude.{◌≡◌, true, false, ◌&&◌, ◌*◌, ◌/◌, ◌%◌, ◌<◌};
+// `operand_flags` and `destination_flags` look an operand up in two tables of bits; `alu`, `alu_of`, `unclassified`
+// and `poep_only` pack the entries that many rows share. The groups and `rules` are written over these.
+ghost use Rattle.std.specs.Prelude.{◌≡◌, true, false, ◌*◌, ◌/◌, ◌%◌, ◌<◌};
+ghost use Rattle.std.specs.Int.Bits.{bit_or};
 ghost use Rattle.bits.specs.Words.{num};
 ghost use Rattle.bits.specs.Fields.{mode_of, reg_of, dst_mode_of, dst_reg_of};
-ghost use Rattle.class_word.specs.Word.{new_of, info};
+ghost use Rattle.class_word.specs.Word.{new_of, info, DEFINES_CCR};
 ghost use Rattle.classifier.specs.Entry.{is_memory, is_indexed, ea, access_flags, alu, entry_word, unclassified};
 
 use bits::{dst_mode_of, dst_reg_of};
@@ -19,6 +20,7 @@ const MEMORY: u64 = 0xEFFF_FFFF_FFFF_0000;
 
 const INDEXED: u64 = 0x08FF_0000_0000_0000;
 
+// Stays a bound in three contracts, here and below: a type of six bits would be made and taken apart at each call.
 fn is_memory(six: u16) -> bool
     requires { six < 64 }
     ensures { result ≡ is_memory (six / 8) (six % 8) }
@@ -40,21 +42,14 @@ fn flag_if(on: bool, flag: u16) -> u16
     if on { flag } else { 0 }
 }
 
-// The flag where both hold.
-fn flag_if_both(on: bool, also: bool, flag: u16) -> u16
-    ensures { result ≡ num (on && also) * flag }
-{
-    if on { flag_if(also, flag) } else { 0 }
-}
-
 fn ea_flags(six: u16, read: bool, write: bool) -> u16
     requires { six < 64 }
     ensures { result ≡ access_flags (ea (six / 8) (six % 8) read write) }
 {
     let is_mem = is_memory(six);
     let index = is_indexed(six);
-    flag_if_both(is_mem, read, F_READS_MEM)
-        | flag_if_both(is_mem, write, F_WRITES_MEM)
+    flag_if(is_mem & read, F_READS_MEM)
+        | flag_if(is_mem & write, F_WRITES_MEM)
         | flag_if(index, F_EA_INDEXED)
 }
 
@@ -74,14 +69,17 @@ pub fn destination_flags(op: u16) -> u16
     ea_flags(mode << 3 | reg, false, true)
 }
 
+// An entry of class 0 and one clock, with these flags beside DEFINES_CCR.
+pub fn alu(flags: u16) -> Info060
+    ensures { result ≡ info (new_of 0 1 (bit_or DEFINES_CCR flags)) }
+{
+    Info060::new(OepClass::PoepSoep, 1, F_DEFINES_CCR | flags)
+}
+
 pub fn alu_of(op: u16, read: bool, write: bool) -> Info060
     ensures { result ≡ info (entry_word (alu (ea (mode_of op) (reg_of op) read write))) }
 {
-    Info060::new(
-        OepClass::PoepSoep,
-        1,
-        F_DEFINES_CCR | operand_flags(op, read, write),
-    )
+    alu(operand_flags(op, read, write))
 }
 
 pub fn unclassified() -> Info060

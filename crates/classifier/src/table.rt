@@ -4,6 +4,7 @@
 ghost use Rattle.std.specs.Prelude.{◌≡◌, ◌<◌};
 ghost use Rattle.classifier.specs.Rules.{rule_count, row_of, rule_of};
 
+// Stays an array of numbers: "a constant table of 1,024 numbers" is document 02's form.
 const RULES: [u8; 1024] = [
     0, // 0000
     0, // 0040

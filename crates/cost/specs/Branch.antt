@@ -15,9 +15,10 @@
 --   answer_number a                    ==  the number of the cache's answer. Document 02, R-5: "not consulted, miss,
 --                                          predicted not taken, predicted taken"; "0 to 3 in this order"
 --   answer_at n                        ==  the answer of a number; one that is no answer's is read as the last
+--   heard p                            ==  what the cache predicted, as an answer
 --   branch_of dbcc taken opened a      ==  what a branch costs, and the answer. Document 02, R-5: "The branch cost
 --                                          shall also answer"
-use Rattle.std.specs.Prelude.{ℕ, ◌+◌, ◌%◌, ◌^◌, Bool, true, false, cond, not, ◌==◌}
+use Rattle.std.specs.Prelude.{ℕ, ◌+◌, ◌%◌, ◌^◌, Bool, true, false, cond, not, ◌==◌, Option, Some, None}
 use Rattle.class_word.specs.Word.{has, clocks, DBCC}
 use Rattle.window.specs.declared.dispatch.Instruction.{Instruction}
 use Rattle.window.specs.declared.dispatch.Controls.{Controls}
@@ -57,6 +58,11 @@ answer_number PredictedTaken = 3
 
 abbrev pub answer_at : ℕ → Answer
 answer_at n = cond (n == 0) NotConsulted (cond (n == 1) Miss (cond (n == 2) PredictedNotTaken PredictedTaken))
+
+abbrev pub heard : Option Bool → Answer
+heard None = Miss
+heard (Some false) = PredictedNotTaken
+heard (Some true) = PredictedTaken
 
 abbrev pub branch_of : Bool → Bool → Bool → Answer → BranchCost
 branch_of dbcc taken opened a = record { cost = clocks (branch_cost dbcc taken opened a); answer = a }

@@ -1,7 +1,7 @@
 // Part 5 of document 01: the branch's cost.
 ghost use Rattle.std.specs.Prelude.{◌≡◌};
 ghost use Rattle.class_word.specs.Word.{has, DBCC};
-ghost use Rattle.cost.specs.Branch.{taken_of, answer_number, answer_at, branch_of};
+ghost use Rattle.cost.specs.Branch.{taken_of, answer_number, answer_at, heard, branch_of};
 
 use class_word::{Clocks, F_DBCC};
 use window::{Controls, Instruction};
@@ -17,12 +17,13 @@ const CYC_060_DBCC_EXPIRED: Clocks = Clocks(3);
 const CYC_060_MISPREDICT: Clocks = Clocks(7);
 
 // What the branch cache said of a branch before it retired.
+// Stays an enum of four, each with its number in document 02: an Option of an Option would name none of them.
 #[derive(Clone, Copy)]
 pub enum Answer {
-    NotConsulted,
-    Miss,
-    PredictedNotTaken,
-    PredictedTaken,
+    NotConsulted = 0,
+    Miss = 1,
+    PredictedNotTaken = 2,
+    PredictedTaken = 3,
 }
 
 // What a branch costs, and what the branch cache said of it.
@@ -33,42 +34,52 @@ pub struct BranchCost {
 }
 
 // The number of an answer.
-pub fn answer_number(answer: Answer) -> u8
-    ensures { result ≡ answer_number answer }
-{
-    match answer {
-        Answer::NotConsulted => 0,
-        Answer::Miss => 1,
-        Answer::PredictedNotTaken => 2,
-        Answer::PredictedTaken => 3,
+impl From<Answer> for u8 {
+    ghost from_gives = { λ answer number. number ≡ answer_number answer };
+
+    fn from(answer: Answer) -> u8 {
+        answer as u8
     }
 }
 
 // The answer of a number; one that is no answer's is read as the last.
-pub fn answer_at(number: u8) -> Answer
-    ensures { result ≡ answer_at number }
-{
-    if number == 0 {
-        return Answer::NotConsulted;
+impl From<u8> for Answer {
+    ghost from_gives = { λ number answer. answer ≡ answer_at number };
+
+    fn from(number: u8) -> Answer {
+        match number {
+            0 => Answer::NotConsulted,
+            1 => Answer::Miss,
+            2 => Answer::PredictedNotTaken,
+            _ => Answer::PredictedTaken,
+        }
     }
-    if number == 1 {
-        return Answer::Miss;
+}
+
+// The answer of a cache that was asked, by what it predicted.
+impl From<Option<bool>> for Answer {
+    ghost from_gives = { λ predicted answer. answer ≡ heard predicted };
+
+    fn from(predicted: Option<bool>) -> Answer {
+        match predicted {
+            None => Answer::Miss,
+            Some(false) => Answer::PredictedNotTaken,
+            Some(true) => Answer::PredictedTaken,
+        }
     }
-    if number == 2 {
-        return Answer::PredictedNotTaken;
-    }
-    Answer::PredictedTaken
 }
 
 // Whether a branch is taken; DBcc does not raise `flowed`, so it is told by where it went.
+#[tactic(auto, unfolding(crate::specs::Branch::taken_of))]
 pub fn taken(i: Instruction, k: Controls) -> bool
     ensures { result ≡ taken_of i k }
 {
-    let fall_through = std::num::wrapping_add_u32(k.ppc, 4);
+    let fall_through = k.ppc.wrapping_add(4);
     if i.word.has(F_DBCC) {
-        return k.pc != fall_through;
+        k.pc != fall_through
+    } else {
+        k.flowed
     }
-    k.flowed
 }
 
 // What a branch costs; the window is shut behind it.
@@ -98,8 +109,9 @@ pub fn branch_cost_060(is_dbcc: bool, taken: bool, opened: bool, answer: Answer)
                 }
             }
         }
-        Answer::Miss => { if taken { CYC_060_MISPREDICT } else { Clocks(1) } }
-        Answer::PredictedNotTaken => { if taken { CYC_060_MISPREDICT } else { Clocks(1) } }
+        Answer::Miss | Answer::PredictedNotTaken => {
+            if taken { CYC_060_MISPREDICT } else { Clocks(1) }
+        }
         Answer::PredictedTaken => {
             if taken {
                 if opened { Clocks(0) } else { Clocks(1) }

@@ -12,10 +12,10 @@ ghost use Rattle.cost.specs.Retiring.{neither, other_point};
 ghost use Rattle.cost.specs.Cost.{flow_cost, plain_of, base_of, pairs, as_head, charged_by};
 ghost use Rattle.cost.specs.declared.branch.Answer.TheVariants.{NotConsulted};
 
-pub use branch::{
-    Answer, BranchCost, answer_at, answer_number, branch_cost_060, charge_branch, taken,
+pub use branch::{Answer, BranchCost, branch_cost_060, charge_branch, taken};
+use class_word::{
+    Clocks, F_DEFINES_CCR, F_EA_INDEXED, F_UNCLASSIFIED, F_VARIABLE, Info060, OepClass,
 };
-use class_word::{Clocks, F_DEFINES_CCR, F_EA_INDEXED, F_UNCLASSIFIED, F_VARIABLE, Info060};
 use window::{Controls, Instruction, RawCount, Window};
 
 const CYC_060_FLOW_MIN: Clocks = Clocks(5);
@@ -31,59 +31,52 @@ pub struct Charged {
 pub fn flow_cost(raw: RawCount) -> Clocks
     ensures { result ≡ clocks (flow_cost raw.0) }
 {
-    let cycles = window::fallback_cycles(raw);
-    if cycles.0 < CYC_060_FLOW_MIN.0 {
-        CYC_060_FLOW_MIN
-    } else {
-        cycles
-    }
+    window::fallback_cycles(raw).max(CYC_060_FLOW_MIN)
 }
 
 // The base before the clock of an indexed operand.
+#[tactic(auto, unfolding(crate::specs::Cost::plain_of))]
 fn plain(word: Info060, raw: RawCount) -> Clocks
     ensures { result ≡ clocks (plain_of word.0 raw.0) }
 {
-    if word.has(F_VARIABLE | F_UNCLASSIFIED) {
-        return window::fallback_cycles(raw);
+    if word.has(F_VARIABLE) || word.has(F_UNCLASSIFIED) {
+        window::fallback_cycles(raw)
+    } else {
+        word.cycles()
     }
-    word.cycles()
 }
 
+#[tactic(auto, unfolding(crate::specs::Cost::base_of))]
 fn base(i: Instruction, k: Controls) -> Clocks
     ensures { result ≡ clocks (base_of i k) }
 {
     let cycles = plain(i.word, k.raw);
     if i.word.has(F_EA_INDEXED) {
-        return Clocks(cycles.0 + 1);
+        Clocks(cycles.0 + 1)
+    } else {
+        cycles
     }
-    cycles
 }
 
 // Whether an instruction that joins no pair becomes the head: class 1 occupies both pipelines.
 fn leads(word: Info060) -> bool
     ensures { result ≡ not (class_of word.0 == 1) }
 {
-    class_word::class_number(word.class()) != 1
+    word.class() != OepClass::PoepOnly
 }
 
+#[tactic(auto, unfolding(crate::specs::Cost::pairs))]
 fn pairs(i: Instruction, k: Controls, w: Window) -> bool
     ensures { result ≡ pairs i k w }
 {
-    if w.opened {
-        return window::soep_dispatch_test(i, k, w);
-    }
-    false
+    w.opened && window::soep_dispatch_test(i, k, w)
 }
 
 // One clock less, never below 0.
 fn less_one(cycles: Clocks) -> Clocks
     ensures { result ≡ clocks (cycles.0 - 1) }
 {
-    if 0 < cycles.0 {
-        Clocks(cycles.0 - 1)
-    } else {
-        cycles
-    }
+    Clocks(cycles.0.saturating_sub(1))
 }
 
 // What an instruction costs that is no branch and changed no flow, and whether it becomes the head.
@@ -92,13 +85,15 @@ pub fn charge_neither(i: Instruction, k: Controls, w: Window) -> Charged
 {
     let cycles = base(i, k);
     if pairs(i, k, w) {
-        let cost = less_one(cycles);
-        let heads = false; // a pair is full
-        return Charged { cost, heads };
-    }
-    Charged {
-        cost: cycles,
-        heads: leads(i.word),
+        Charged {
+            cost: less_one(cycles),
+            heads: false, // a pair is full
+        }
+    } else {
+        Charged {
+            cost: cycles,
+            heads: leads(i.word),
+        }
     }
 }
 
@@ -107,10 +102,13 @@ pub fn charge_other(i: Instruction, k: Controls, w: Window) -> Charged
     ensures { result ≡ charged_by (other_point k) i k w NotConsulted }
 {
     if k.flowed {
-        let cost = flow_cost(k.raw);
-        return Charged { cost, heads: false };
+        Charged {
+            cost: flow_cost(k.raw),
+            heads: false,
+        }
+    } else {
+        charge_neither(i, k, w)
     }
-    charge_neither(i, k, w)
 }
 
 // The window with this instruction as head.

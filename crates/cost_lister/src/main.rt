@@ -5,34 +5,19 @@
 // profile, are said on standard error.
 #![tactic(auto)]
 
-use input::{Input, Word};
 use listing::LISTING_ROOM;
-use profile::Profile;
 use state::Oep060Timing;
 use std::io;
 
-fn list(rt: &(impl io::Input + Print + Eprint), profile: Profile) -> io::Result<()> {
+fn main(rt: HostRuntime) -> io::Result<()> {
+    let Some(profile) = input::read_word(&rt) else {
+        return eprintln!(rt; "cost_lister: the profile is crate or mended");
+    };
     // One byte more than is taken, so that longer input is seen to be longer.
     let mut bytes = [0u8; 65537];
-    match input::read_input(rt, &mut bytes) {
-        Input::Unreadable => eprintln!(rt; "cost_lister: standard input cannot be read"),
-        Input::Taken(n) => {
-            let mut text = [0u8; LISTING_ROOM];
-            let listed = listing::list_trace(
-                &bytes[..n],
-                &mut text,
-                Oep060Timing::fresh(),
-                profile,
-            );
-            let len = listed.len;
-            rt.write_all(&text[..len])
-        }
-    }
-}
-
-fn main(rt: HostRuntime) -> io::Result<()> {
-    match input::read_word(&rt) {
-        Word::Named(profile) => list(&rt, profile),
-        Word::Unknown => eprintln!(rt; "cost_lister: the profile is crate or mended"),
-    }
+    input::on_input(&rt, "cost_lister", &mut bytes, |trace| {
+        let mut text = [0u8; LISTING_ROOM];
+        let listed = listing::list_trace(trace, &mut text, Oep060Timing::fresh(), profile);
+        rt.write_all(&text[..listed.len])
+    })
 }

@@ -7,12 +7,14 @@ use mathlib.Core.List.{List, [], ◌∷◌, ◌++◌}
 use native.Mathlib.Nat.{add-zero}
 use native.Mathlib.Omega.{arith}
 use lib.Dec.{eqb}
-use lib.ListN.{length, get_or, set, replicate}
+use lib.ListN.{length, get_or, set, replicate, drop}
+use Rattle.std.proofs.lemmas.List.{length-drop, get_or-drop, drop-drop}
 use lib.Seq.{get_or-set_same, get_or-set_other}
 use borrow.Author.Tests.{eqb-true, eqb-false}
 use Rattle.bits.specs.Words.{num}
 use Rattle.cost.specs.Retiring.{Retiring}
 use Rattle.rule_text.specs.Each.{each_from}
+use Rattle.reasons.specs.declared.reason.Reason.{Reason}
 use Rattle.reasons.specs.declared.reason.Reason.TheVariants.{Static}
 use Rattle.reasons.specs.Reasons.{reason_number, reasons, reason_of}
 use Rattle.explaining.specs.WhyLines.{counted, count_line, counts_for}
@@ -34,8 +36,8 @@ one_more_lem ns j k h = go (eqb j k) refl
     go false q = get_or-set_other ns j k (get_or ns j 0 + 1) 0 (λ e. eqb-false j k q (sym e)) ∙ sym (add-zero (get_or ns k 0))
 
 -- at the start there is none
-pub none_yet : (n : ℕ) {ns : List ℕ} → ns ≡ replicate 14 0 → get_or ns n 0 ≡ 0
-none_yet n e = ap (λ (xs : List ℕ). get_or xs n 0) e ∙ zeros 14 n
+pub none_yet : (n : ℕ) → ◌≡◌ {A = ℕ} (get_or (replicate 14 0) n 0) 0
+none_yet n = zeros 14 n
   where
     zeros : (m n : ℕ) → ◌≡◌ {A = ℕ} (get_or (replicate m 0) n 0) 0
     zeros zero n = refl
@@ -65,3 +67,19 @@ in_order rs = refl
 -- the lines of counts that are those of the retirements
 pub counts_so : (ns : List ℕ) (rs : List Retiring) → ((n : ℕ) → get_or ns n 0 ≡ counted n rs) → each_from 0 14 (count_text ns) ≡ counts_for reasons rs
 counts_so ns rs h = alike (count_text ns) (line_at rs) (λ n. line_so ns rs n (h n)) 0 14 ∙ in_order rs
+
+-- what comes next in what is left of a list stands at that place of it
+module _ {X : Type 0} (xs : List X) (k : ℕ) {x : X} {rest : List X} (e : drop k xs ≡ x ∷ rest) where
+  pub next_within : k < length xs
+  next_within = omega (arith, ap length e, length-drop k xs)
+
+  pub next_is : (d : X) → get_or xs k d ≡ x
+  next_is d = let z : k + 0 ≡ k = omega arith in sym (rw z at (get_or-drop k xs 0 d)) ∙ ap (λ l. get_or l 0 d) e
+
+  pub next_rest : rest ≡ drop (k + 1) xs
+  next_rest = sym (ap (λ l. drop 1 l) e) ∙ drop-drop 1 k xs
+
+pub next_line : (ns : List ℕ) (k : ℕ) {x : Reason} {n : ℕ} {xs : List Reason} {ms : List ℕ}
+    → drop k reasons ≡ x ∷ xs → drop k ns ≡ n ∷ ms → count_text ns k ≡ count_line x n
+unfolding count_text
+next_line ns k e f = rw (next_is reasons k e Static, next_is ns k f 0)

@@ -1,6 +1,6 @@
 -- Writing the lines, come to a place of the trace: what is left of the retirements, met and written from here, gives all of them, their sum and their counts.
 -- Assumes nothing.
-use Prim.Native.Nat.{ℕ, ◌+◌, ◌-◌, ◌*◌, ◌^◌, ◌≤◌, ◌<◌}
+use Prim.Native.Nat.{ℕ, ◌+◌, ◌*◌, ◌^◌, ◌≤◌, ◌<◌}
 use mathlib.Core.Path.{◌≡◌, sym, ap, subst, ◌∙◌}
 use mathlib.Core.Bool.{Bool}
 use mathlib.Core.List.{List, [], ◌∷◌, ◌++◌, map}
@@ -22,10 +22,10 @@ use Rattle.state.specs.Events.{retiring_of, retirements, total, count_of}
 use Rattle.state.specs.Timing.{state_of}
 use Rattle.step.specs.Boards.{board_of, after_of}
 use Rattle.refusals.specs.declared.Refusal.{Refusal}
-use Rattle.records.specs.declared.record.Read.TheVariants.{Got, Bad, End}
-use Rattle.records.specs.Record.{read_at}
+use Rattle.std.specs.Prelude.{Err}
+use Rattle.records.specs.Record.{got, ended, read_at}
 use Rattle.records.specs.Trace.{ahead, read_from}
-use Rattle.records.proofs.Walking.{got_within, from_end, from_bad, from_got}
+use Rattle.records.proofs.Walking.{from_end, from_bad, from_got}
 use Rattle.records.proofs.Judging.{tells_ahead, tells_room}
 use Rattle.reasons.specs.Reasons.{reason_number, reason_of}
 use Rattle.reasons.specs.Explain.{explained_of}
@@ -49,7 +49,7 @@ pub record Going (full : Bool) (p : Profile) (trace out₀ : List ℕ) (start : 
 
 module _ {full : Bool} {p : Profile} {trace out₀ : List ℕ} {start : ℕ} {t₀ : Oep060Timing} {out : List ℕ} {place at k sum : ℕ} {counts : List ℕ} {t : Oep060Timing}
     (g : Going full p trace out₀ start t₀ out place at k sum counts t) where
-  pub going_end : read_at trace at ≡ End → Lined full out₀ start (rest p trace 0 t₀) (record { place = place; count = k; total = sum }) out counts
+  pub going_end : read_at trace at ≡ ended → Lined full out₀ start (rest p trace 0 t₀) (record { place = place; count = k; total = sum; counts = counts }) out
   unfolding why_lines retirements
   going_end q =
       let e : rest p trace at t ≡ [] = ap (met_by p t) (from_end trace at q) in
@@ -60,21 +60,18 @@ module _ {full : Bool} {p : Profile} {trace out₀ : List ℕ} {start : ℕ} {t�
         each = λ n. sym (add-zero (get_or counts n 0)) ∙ sym (ap (λ (rs : List Retiring). get_or counts n 0 + counted n rs) e) ∙ g.each n;
       }
 
-  pub going_bad : (refusal : Refusal) → read_at trace at ≡ Bad refusal → ⊥
+  pub going_bad : (refusal : Refusal) → read_at trace at ≡ Err refusal → ⊥
   going_bad refusal q = subst (Few k) (from_bad trace at refusal q) g.few
 
   pub going_index : k ≤ 3276
   going_index = tells_room k 3276 (read_from trace at) g.few
 
-  module _ (e : Event) (next : ℕ) (q : read_at trace at ≡ Got e next) where
+  module _ (e : Event) (next : ℕ) (q : read_at trace at ≡ got e next) where
     here : Few k (ahead e (read_from trace next))
     here = subst (Few k) (from_got trace at e next q) g.few
 
     few_next : Few (k + count_of (e ∷ [])) (read_from trace next)
     few_next = tells_ahead k 3276 e (read_from trace next) here
-
-    pub going_nearer : length trace - next < length trace - at
-    going_nearer = let w = got_within trace at e next q in omega arith
 
     pub going_quiet : count_of (e ∷ []) ≡ 0 → {u : Oep060Timing} → u ≡ after_of p t e → Going full p trace out₀ start t₀ out place next k sum counts u
     going_quiet z {u} h =
@@ -93,12 +90,9 @@ module _ {full : Bool} {p : Profile} {trace out₀ : List ℕ} {start : ℕ} {t�
           each = λ n. sym (ap (λ (rs : List Retiring). get_or counts n 0 + counted n rs) s) ∙ g.each n;
         }
 
-  module _ {e : Event} {next : ℕ} (q : read_at trace at ≡ Got e next) {r : Retirement} (told : e ≡ Retired r) where
+  module _ {r : Retirement} {next : ℕ} (q : read_at trace at ≡ got (Retired r) next) where
     abbrev this : Retiring
     this = retiring_of (board_of p) (state_of t) r
-
-    retired : read_at trace at ≡ Got (Retired r) next
-    retired = q ∙ ap (λ (x : Event). Got x next) told
 
     abbrev line : List ℕ
     line = why_line full k r.op (explained_of this)
@@ -107,7 +101,7 @@ module _ {full : Bool} {p : Profile} {trace out₀ : List ℕ} {start : ℕ} {t�
     left = rest p trace next (after_of p t (Retired r))
 
     split : rest p trace at t ≡ this ∷ left
-    split = ap (met_by p t) (from_got trace at (Retired r) next retired) ∙ met p t k r (read_from trace next) (here (Retired r) next retired)
+    split = ap (met_by p t) (from_got trace at (Retired r) next q) ∙ met p t k r (read_from trace next) (here (Retired r) next q)
 
     lines_split : why_lines full k (rest p trace at t) ≡ line ++ why_lines full (k + 1) left
     unfolding why_lines
@@ -129,7 +123,7 @@ module _ {full : Bool} {p : Profile} {trace out₀ : List ℕ} {start : ℕ} {t�
         let more : (i : ℕ) → get_or (one_more counts j) i 0 ≡ get_or counts i 0 + num (eqb j i) = λ i. one_more_lem counts j i (omega (arith, g.slots, number_few (reason_of this))) in
         let s : rest p trace next u ≡ left = ap (rest p trace next) h in
         record {
-          few = few_next (Retired r) next retired;
+          few = few_next (Retired r) next q;
           small = omega (arith, g.small);
           slots = length-set counts j (get_or counts j 0 + 1) ∙ g.slots;
           low = λ i. omega (arith, more i, g.low i, num_most (eqb j i));

@@ -14,7 +14,7 @@ use Rattle.bits.proofs.Below.{each_below}
 use Rattle.text.specs.Hex.{hex_of, hex_long_of}
 use Rattle.text.specs.Written.{text_of}
 use Rattle.text.proofs.Digits.{decimal_length}
-use Rattle.rule_text.proofs.Going.{each_most}
+use Rattle.rule_text.proofs.Each.{each_most}
 use Rattle.records.proofs.Choices.{by_test}
 use Rattle.window.specs.declared.Window.{Window}
 use Rattle.cost.specs.declared.branch.Answer.{Answer}
@@ -39,19 +39,21 @@ use Rattle.reasons.specs.declared.reason.Reason.TheVariants.{
 use Rattle.reasons.specs.declared.explain.Explained.{Explained}
 use Rattle.explaining.specs.Words.{predicted_word, dash, register_name, comma, register_text, registers_of, in_the_way}
 use Rattle.explaining.specs.WhyLines.{numbers_text, words_text, head_text, more_text, why_line, count_line}
-use Rattle.explaining.specs.Inner.{word_at, count_text}
+use Rattle.reasons.specs.Reasons.{reason_word, reasons}
+use Rattle.explaining.specs.Inner.{count_text}
 
 -- ---- the reasons
-words_tested : every_below 14 (λ n. leb (length (word_at n)) 12) ≡ true
-unfolding word_at
+abbrev reason_at : ℕ → List ℕ
+reason_at n = text_of (reason_word (get_or reasons n Static))
+
+words_tested : every_below 14 (λ n. leb (length (reason_at n)) 12) ≡ true
 words_tested = refl
 
-pub word_most : (n : ℕ) → n < 14 → length (word_at n) ≤ 12
-word_most n h = leb-true (length (word_at n)) 12 (each_below 14 (λ n. leb (length (word_at n)) 12) words_tested n h)
-
 pub count_most : (ns : List ℕ) (n : ℕ) → n < 14 → get_or ns n 0 < 2 ^ 64 → length (count_text ns n) ≤ 34
-unfolding count_text count_line word_at
-count_most ns n h l = simp length-append (omega (arith, word_most n h, decimal_length 20 (get_or ns n 0) (omega arith) (omega arith)))
+unfolding count_text count_line
+count_most ns n h l =
+    let w = leb-true (length (reason_at n)) 12 (each_below 14 (λ n. leb (length (reason_at n)) 12) words_tested n h) in
+    simp length-append (omega (arith, w, decimal_length 20 (get_or ns n 0) (omega arith) (omega arith)))
 
 -- ---- a retirement
 numbers_most : (i op n : ℕ) → i < 10000 → n ≤ 536870912 → length (numbers_text i op n) ≤ 19

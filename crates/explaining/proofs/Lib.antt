@@ -1,4 +1,3 @@
-pub mod Chain
 pub mod Tables
 pub mod Lengths
 pub mod Counting

@@ -9,7 +9,7 @@ use lib.ListN.{length, length-append, get_or}
 use Rattle.text.specs.Written.{written, written_of}
 use Rattle.text.proofs.Writing.{Wrote, wrote, wrote_more, wrote_whole}
 use Rattle.rule_text.specs.Each.{each_from}
-use Rattle.rule_text.proofs.Going.{each_most}
+use Rattle.rule_text.proofs.Each.{each_most}
 use Rattle.cost.specs.Retiring.{Retiring}
 use Rattle.cost.specs.Cost.{cost_of}
 use Rattle.profile.specs.declared.Profile.{Profile}
@@ -60,7 +60,7 @@ module _ (full : Bool) (p : Profile) (t : Oep060Timing) (said : Trace) (few : Fe
     pub lines_room : a + length (why_lines full 0 rs) ≤ length after₁
     lines_room = omega (arith, headed.place, headed.same, header_most full)
 
-    module _ {put : Put} {after₂ counts : List ℕ} (l : Lined full after₁ a rs put after₂ counts) where
+    module _ {put : Put} {after₂ : List ℕ} (l : Lined full after₁ a rs put after₂) where
       lined : Wrote out 0 (why_header full ++ why_lines full 0 rs) put.place after₂
       lined = wrote_more headed (why_lines full 0 rs) (omega (arith, headed.place, header_most full)) l.lines
 
@@ -80,14 +80,14 @@ module _ (full : Bool) (p : Profile) (t : Oep060Timing) (said : Trace) (few : Fe
         at_counts : b + 476 ≤ length out
         at_counts = omega (arith, behind, lined.place, summed.place, length-append (why_header full ++ why_lines full 0 rs) sums, total_most put.count put.total n s)
 
-        pub counts_room : b + length (cond full (each_from 0 14 (count_text counts)) []) ≤ length after₃
-        counts_room = omega (arith, at_counts, summed.same, asked_most counts rs l.each (met_few p (seen_of t) said few) full)
+        pub counts_room : b + length (cond full (each_from 0 14 (count_text put.counts)) []) ≤ length after₃
+        counts_room = omega (arith, at_counts, summed.same, asked_most put.counts rs l.each (met_few p (seen_of t) said few) full)
 
-        pub table_whole : {r : ℕ} {after₄ : List ℕ} → written r after₄ ≡ written_of after₃ b (cond full (each_from 0 14 (count_text counts)) [])
+        pub table_whole : {r : ℕ} {after₄ : List ℕ} → written r after₄ ≡ written_of after₃ b (cond full (each_from 0 14 (count_text put.counts)) [])
             → written r after₄ ≡ written_of out 0 (why_text_by full p said t)
         table_whole e =
-            let w = wrote_more summed (cond full (each_from 0 14 (count_text counts)) []) (omega (arith, at_counts, asked_most counts rs l.each (met_few p (seen_of t) said few) full)) e in
+            let w = wrote_more summed (cond full (each_from 0 14 (count_text put.counts)) []) (omega (arith, at_counts, asked_most put.counts rs l.each (met_few p (seen_of t) said few) full)) e in
             wrote_whole w
-            ∙ ap (λ (x : List ℕ). written_of out 0 (why_header full ++ why_lines full 0 rs ++ sums ++ x)) (asked_lines counts rs l.each full)
+            ∙ ap (λ (x : List ℕ). written_of out 0 (why_header full ++ why_lines full 0 rs ++ sums ++ x)) (asked_lines put.counts rs l.each full)
             ∙ ap₂ (λ (k m : ℕ). written_of out 0 (why_header full ++ why_lines full 0 rs ++ total_line k m ++ count_lines full rs)) l.count l.sum
             ∙ sym (ap (written_of out 0) (text_parts full p t said few))

@@ -22,7 +22,8 @@ use Rattle.in_place.specs.WindowNumbers.{window_at, numbers_of}
 use Rattle.in_place.specs.Lent.{lent, state_at}
 use Rattle.in_place.proofs.NumbersHeld.{window_held}
 use Rattle.refusals.specs.declared.Refusal.{Refusal}
-use Rattle.refusals.specs.declared.Verdict.TheVariants.{Accepted, Refused}
+use Rattle.std.specs.Prelude.{Err}
+use Rattle.refusals.specs.Verdict.{accepted}
 use Rattle.records.specs.Record.{remaining}
 use Rattle.records.specs.Trace.{Trace, events, refused, read_trace}
 use Rattle.records.specs.Judged.{verdict_of}
@@ -61,7 +62,7 @@ lines_most full p i s (Broken ∷ es) w h = lines_most full p i (after (board_of
 lines_most full p i s (ClearedAll ∷ es) w h = lines_most full p i (after (board_of p) s ClearedAll) es w.1 h
 lines_most full p i s (ClearedUser ∷ es) w h = lines_most full p i (after (board_of p) s ClearedUser) es w.1 h
 
-few_so : (size : ℕ) (said : Trace) → size ≤ 65536 → Short size said → verdict_of said ≡ Accepted → Few 0 said
+few_so : (size : ℕ) (said : Trace) → size ≤ 65536 → Short size said → verdict_of said ≡ accepted → Few 0 said
 few_so size (events es) h q v = omega (arith, q.0)
 few_so size (refused refusal) h q v = absurd (not_both_lem v)
 
@@ -70,15 +71,15 @@ unfolding why_lines
 room_so full p t size (events es) h q = omega (arith, q.0, lines_most full p 0 (state_of t) es q.1 (omega (arith, q.0)))
 room_so full p t size (refused refusal) h q = omega arith
 
-by_refused : (full : Bool) (p : Profile) (said : Trace) (t : Oep060Timing) {refusal : Refusal} → verdict_of said ≡ Refused refusal → why_text_by full p said t ≡ refusal_line refusal
+by_refused : (full : Bool) (p : Profile) (said : Trace) (t : Oep060Timing) {refusal : Refusal} → verdict_of said ≡ Err refusal → why_text_by full p said t ≡ refusal_line refusal
 by_refused full p (events es) t v = absurd (not_both_lem (sym v))
 by_refused full p (refused other) t {refusal} v = let q : other ≡ refusal = cc in ap refusal_line q
 
 module _ (full : Bool) (p : Profile) (trace : List ℕ) (t : Oep060Timing) where
-  pub why_refused : {refusal : Refusal} → verdict_of (short_trace_of trace) ≡ Refused refusal → why_of full p trace t ≡ refusal_line refusal
+  pub why_refused : {refusal : Refusal} → verdict_of (short_trace_of trace) ≡ Err refusal → why_of full p trace t ≡ refusal_line refusal
   why_refused v = by_refused full p (short_trace_of trace) t v
 
-  module _ (v : verdict_of (short_trace_of trace) ≡ Accepted) where
+  module _ (v : verdict_of (short_trace_of trace) ≡ accepted) where
     -- only a trace within the limit is accepted
     limit : length trace ≤ 65536
     limit = go (ltb 65536 (length trace)) refl

@@ -3,15 +3,32 @@ ghost use Rattle.std.specs.Prelude.{◌≡◌, cond, [], ◌+◌, ◌≤◌, ◌
 ghost use Rattle.text.specs.Written.{written, written_of};
 ghost use Rattle.rule_text.specs.Each.{each_from};
 ghost use Rattle.reasons.specs.Reasons.{reason_number};
+ghost use Rattle.explaining.specs.WhyLines.{count_line};
 ghost use Rattle.explaining.specs.Inner.{count_text};
 
 use crate::words;
 use reasons::Reason;
 
-pub const REASONS: usize = 14;
+// In the order of their numbers.
+pub const REASONS: [Reason; 14] = [
+    Reason::Paired,
+    Reason::WindowShut,
+    Reason::EssOff,
+    Reason::NotCached,
+    Reason::NotSimple,
+    Reason::Register,
+    Reason::Ccr,
+    Reason::Memory,
+    Reason::Refill,
+    Reason::Folded,
+    Reason::Alone,
+    Reason::NotTaken,
+    Reason::Mispredicted,
+    Reason::Static,
+];
 
 // The counts by the reasons' numbers.
-pub type Counts = [u64; REASONS];
+pub type Counts = [u64; REASONS.len()];
 
 pub fn count_one(counts: &mut Counts, reason: Reason)
     // The count can grow: only `put_lines` calls this, where the trace is short.
@@ -19,19 +36,15 @@ pub fn count_one(counts: &mut Counts, reason: Reason)
     ensures { counts.new
         ≡ set counts.old (reason_number reason) (get_or counts.old (reason_number reason) 0 + 1) }
 {
-    let n = reasons::reason_number(reason) as usize;
-    counts[n] += 1;
+    counts[reason as usize] += 1;
 }
 
-// The line of the reason of this number.
-fn put_count(out: &mut [u8], at: usize, counts: &Counts, n: usize) -> usize
-    requires n_bound { n < 14 }
-    requires n_in_bounds { at + length (count_text counts.now n) ≤ length out.old }
-    ensures { written result out.new
-        ≡ written_of out.old at (count_text counts.now n) }
+#[tactic(auto, using(rule_text::proofs::Each::each), unfolding(crate::specs::WhyLines::count_line))]
+fn put_count(out: &mut [u8], at: usize, reason: Reason, count: u64) -> usize
+    requires { at + length (count_line reason count) ≤ length out.old }
+    ensures { written result out.new ≡ written_of out.old at (count_line reason count) }
 {
-    let count = counts[n];
-    let a = words::put_reason(out, at, n);
+    let a = text::put_bytes(out, at, words::reason_word(reason));
     let b = text::put_bytes(out, a, b" ");
     let c = text::put_decimal(out, b, count);
     text::put_bytes(out, c, b"\n")
@@ -43,10 +56,8 @@ fn put_each(out: &mut [u8], start: usize, counts: &Counts) -> usize
         ≡ written_of out.old start (each_from 0 14 (count_text counts.now)) }
 {
     let mut place = start;
-    let mut n: usize = 0;
-    while n < REASONS {
-        place = put_count(out, place, counts, n);
-        n += 1;
+    for (reason, count) in REASONS.iter().zip(counts) {
+        place = put_count(out, place, *reason, *count);
     }
     place
 }

@@ -4,14 +4,14 @@
 // `counts` the lines of the reasons. Here all records of a trace are checked first (`records`), since a refusal is the
 // whole output; then each is read again and its event done in place, and a retirement's line is put as it is explained
 // (`reasons`). Only `why_text` is called from outside.
-#![tactic(auto)]
+#![tactic(auto, using(rule_text::proofs::Each::each))]
 
 mod counts;
 mod lines;
 mod registers;
 mod words;
 
-ghost use Rattle.std.specs.Prelude.{◌≡◌, ◌+◌, ◌≤◌, length, replicate};
+ghost use Rattle.std.specs.Prelude.{◌≡◌, ◌+◌, ◌≤◌, length};
 ghost use Rattle.text.specs.Written.{written, written_of};
 ghost use Rattle.state.specs.Timing.{seen_of};
 ghost use Rattle.in_place.specs.Lent.{lent, state_at};
@@ -24,23 +24,24 @@ ghost use Rattle.explaining.specs.Inner.{met_by, Lined};
 use crate::counts::Counts;
 use in_place::{WINDOW_NUMBERS, WindowNumbers};
 use profile::Profile;
-use records::Read;
-use refusals::Verdict;
 use state::{Event, Oep060Timing};
 
 // Room for the longest text: 3,276 retirements of 20 bytes, a line of at most 115 characters each, 55 of the header, 48
 // of the total, and 14 lines of the reasons of at most 34 characters.
 pub const WHY_ROOM: usize = 377319;
 
-// What the lines of all retirements come to: the place behind them, how many there are, and the sum of their costs.
+// What the lines of all retirements come to: the place behind them, how many there are, the sum of their costs, and
+// how many have each reason.
 #[derive(Clone, Copy)]
 struct Put {
     place: usize,
     count: usize,
     total: u64,
+    counts: Counts,
 }
 
 // A line for each retirement of a trace whose records are all sound, at most 3,276, stepped on lent numbers.
+// Stays a clause of two here (`FitsAnswers`): it bounds how many lines there are, and a trace alone says it.
 fn put_lines(
     trace: &[u8],
     out: &mut [u8],
@@ -48,58 +49,36 @@ fn put_lines(
     tags: &mut [u32; 256],
     state: &mut [u8; 256],
     window: &mut WindowNumbers,
-    counts: &mut Counts,
     profile: Profile,
     full: bool,
 ) -> Put
     requires fits_answers { FitsAnswers 0 3276 (read_trace trace.now) }
-    requires counts_value { counts.old ≡ replicate 14 0 }
     requires trace_in_bounds { start + length (why_lines full 0 (met_by profile (state_at (lent tags.old
         state.old window.old)) (read_trace trace.now))) ≤ length out.old }
     ensures { Lined full out.old start (met_by profile (state_at (lent tags.old
-        state.old window.old)) (read_trace trace.now)) result out.new
-        counts.new }
+        state.old window.old)) (read_trace trace.now)) result out.new }
 {
     let mut place = start;
-    let mut at: usize = 0;
     let mut index: usize = 0;
     let mut total: u64 = 0;
-    loop {
-        let read = records::read_record(trace, at);
-        match read {
-            Read::End => {
-                return Put {
-                    place,
-                    count: index,
-                    total,
-                };
-            }
-            // No record is refused: all are sound.
-            Read::Bad(_) => {
-                return Put {
-                    place,
-                    count: index,
-                    total,
-                };
-            }
-            Read::Got(e, next) => {
-                at = next;
-                match e {
-                    Event::Retired(r) => {
-                        let x = reasons::explain_in_place(tags, state, window, profile, r);
-                        place = lines::put_line(out, place, full, index, r.op, x);
-                        let reason = x.reason;
-                        counts::count_one(counts, reason);
-                        let cost = x.cost;
-                        total += cost.0 as u64;
-                        index += 1;
-                    }
-                    Event::Broken | Event::ClearedAll | Event::ClearedUser => {
-                        in_place::event_at(tags, state, window, profile, e);
-                    }
-                }
-            }
+    let mut counts = [0; counts::REASONS.len()];
+    // No record is refused: all are sound.
+    for (_, event) in records::events_of(trace) {
+        if let Event::Retired(r) = event {
+            let x = reasons::explain_in_place(tags, state, window, profile, r);
+            place = lines::put_line(out, place, full, index, r.op, x);
+            counts::count_one(&mut counts, x.reason);
+            total += x.cost.0 as u64;
+            index += 1;
+        } else {
+            in_place::event_at(tags, state, window, profile, event);
         }
+    }
+    Put {
+        place,
+        count: index,
+        total,
+        counts,
     }
 }
 
@@ -120,10 +99,8 @@ fn put_table(
     let mut tags = timing.cache.tags;
     let mut state = timing.cache.state;
     let mut window = [0; WINDOW_NUMBERS];
-    let met = timing.window;
-    let read = met.seen();
+    let read = timing.window.seen();
     in_place::put_window(&mut window, read);
-    let mut counts = [0; counts::REASONS];
     let a = lines::put_header(out, 0, full);
     let put = put_lines(
         trace,
@@ -132,12 +109,11 @@ fn put_table(
         &mut tags,
         &mut state,
         &mut window,
-        &mut counts,
         profile,
         full,
     );
     let b = listing::put_total(out, put.place, put.count, put.total);
-    counts::put_counts(out, b, full, &counts)
+    counts::put_counts(out, b, full, &put.counts)
 }
 
 // The text: its length, and in the lent bytes the text itself; bytes beyond it stay.
@@ -152,9 +128,8 @@ pub fn why_text(
         ≡ written_of text.old 0 (why_of full profile trace.now timing) }
     ensures upper_bound { result ≤ length text.new }
 {
-    let verdict = showing::judge_short(trace);
-    match verdict {
-        Verdict::Refused(refusal) => listing::put_refusal(text, 0, refusal),
-        Verdict::Accepted => put_table(trace, text, timing, profile, full),
+    match showing::judge_short(trace) {
+        Err(refusal) => listing::put_refusal(text, 0, refusal),
+        Ok(()) => put_table(trace, text, timing, profile, full),
     }
 }

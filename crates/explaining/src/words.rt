@@ -1,83 +1,62 @@
 // What stands in the columns, put into lent bytes.
-ghost use Rattle.std.specs.Prelude.{◌≡◌, ◌+◌, ◌≤◌, ◌<◌, length};
+ghost use Rattle.std.specs.Prelude.{◌≡◌, ◌+◌, ◌≤◌, length};
 ghost use Rattle.text.specs.Written.{text_of, written, written_of};
+ghost use Rattle.reasons.specs.Reasons.{reason_word};
 ghost use Rattle.explaining.specs.Words.{predicted_word};
 ghost use Rattle.explaining.specs.WhyLines.{words_text, head_text};
-ghost use Rattle.explaining.specs.Inner.{word_at};
 
 use cost::Answer;
 use reasons::Reason;
 use window::Window;
 
-// The words of the reasons, by their numbers: twelve columns each.
-const REASON_WORDS: [u8; 168] = *b"\
-    paired      \
-    window-shut \
-    ess-off     \
-    not-cached  \
-    not-simple  \
-    register    \
-    ccr         \
-    memory      \
-    refill      \
-    folded      \
-    alone       \
-    not-taken   \
-    mispredicted\
-    static      \
-";
-
-// How long each is.
-const REASON_LENGTHS: [usize; 14] = [6, 11, 7, 10, 10, 8, 3, 6, 6, 6, 5, 9, 12, 6];
-
-fn reason_length(number: usize) -> usize
-    requires { number < 14 }
-    ensures { result ≡ length (word_at number) }
+pub fn reason_word(reason: Reason) -> &'static [u8]
+    ensures { result.now ≡ text_of (reason_word reason) }
 {
-    REASON_LENGTHS[number]
-}
-
-// The word of the reason of this number.
-pub fn put_reason(out: &mut [u8], at: usize, number: usize) -> usize
-    // There is such a reason, and room: only the lines call this, where both are known.
-    requires number_bound { number < 14 }
-    requires number_in_bounds { at + length (word_at number) ≤ length out.old }
-    ensures { written result out.new ≡ written_of out.old at (word_at number) }
-{
-    let words = REASON_WORDS;
-    let from = 12 * number;
-    let end = from + reason_length(number);
-    text::put_bytes(out, at, &words[from..end])
+    match reason {
+        Reason::Paired => b"paired",
+        Reason::WindowShut => b"window-shut",
+        Reason::EssOff => b"ess-off",
+        Reason::NotCached => b"not-cached",
+        Reason::NotSimple => b"not-simple",
+        Reason::Register => b"register",
+        Reason::Ccr => b"ccr",
+        Reason::Memory => b"memory",
+        Reason::Refill => b"refill",
+        Reason::Folded => b"folded",
+        Reason::Alone => b"alone",
+        Reason::NotTaken => b"not-taken",
+        Reason::Mispredicted => b"mispredicted",
+        Reason::Static => b"static",
+    }
 }
 
 // What the cache predicted.
-fn put_predicted(out: &mut [u8], at: usize, answer: Answer) -> usize
-    requires { at + length (text_of (predicted_word answer)) ≤ length out.old }
-    ensures { written result out.new
-        ≡ written_of out.old at (text_of (predicted_word answer)) }
+fn predicted_word(answer: Answer) -> &'static [u8]
+    ensures { result.now ≡ text_of (predicted_word answer) }
 {
     match answer {
-        Answer::NotConsulted => text::put_bytes(out, at, b"not-consulted"),
-        Answer::Miss => text::put_bytes(out, at, b"miss"),
-        Answer::PredictedNotTaken => text::put_bytes(out, at, b"predicted-not-taken"),
-        Answer::PredictedTaken => text::put_bytes(out, at, b"predicted-taken"),
+        Answer::NotConsulted => b"not-consulted",
+        Answer::Miss => b"miss",
+        Answer::PredictedNotTaken => b"predicted-not-taken",
+        Answer::PredictedTaken => b"predicted-taken",
     }
 }
 
 // The two words of a retirement.
+#[tactic(auto, using(rule_text::proofs::Each::each), unfolding(crate::specs::WhyLines::words_text))]
 pub fn put_words(out: &mut [u8], at: usize, reason: Reason, answer: Answer) -> usize
     // There is room: only `put_line` calls this, where the room is known.
     requires { at + length (words_text reason answer) ≤ length out.old }
     ensures { written result out.new ≡ written_of out.old at (words_text reason answer) }
 {
-    let number = reasons::reason_number(reason);
     let a = text::put_bytes(out, at, b" ");
-    let b = put_reason(out, a, number as usize);
+    let b = text::put_bytes(out, a, reason_word(reason));
     let c = text::put_bytes(out, b, b" ");
-    put_predicted(out, c, answer)
+    text::put_bytes(out, c, predicted_word(answer))
 }
 
 // The head of the window.
+#[tactic(auto, using(rule_text::proofs::Each::each), unfolding(crate::specs::WhyLines::head_text))]
 pub fn put_head(out: &mut [u8], at: usize, w: Window) -> usize
     // There is room: only `put_more` calls this, where the room is known.
     requires { at + length (head_text w) ≤ length out.old }
@@ -85,9 +64,9 @@ pub fn put_head(out: &mut [u8], at: usize, w: Window) -> usize
 {
     if w.opened {
         let a = text::put_bytes(out, at, b" ");
-        let b = text::put_hex4(out, a, w.op);
+        let b = text::put_hex::<4>(out, a, u32::from(w.op));
         let c = text::put_bytes(out, b, b" ");
-        return text::put_hex8(out, c, w.address);
+        return text::put_hex::<8>(out, c, w.address);
     }
     text::put_bytes(out, at, b" - -")
 }

@@ -15,7 +15,7 @@
 --                                  "Refused image reading returns a fresh state (zeros, window shut)"
 use Rattle.std.specs.Prelude.{ℕ, List}
 use Rattle.image.specs.declared.ImageRead.{ImageRead}
-use Rattle.image.specs.Entries.{ImageOutcome, image_write_of, image_read_of}
+use Rattle.image.specs.Entries.{ImageOutcome, image_write_of, write_verdict, bytes_written, image_read_of}
 use Rattle.host.specs.declared.results.HostRan.{HostRan}
 use Rattle.in_place.specs.Lent.{Lent, state_at, lent_of}
 use Rattle.host.specs.HostRan.{host_ran_of}
@@ -28,7 +28,7 @@ abbrev pub host_image : HostRan → List ℕ → HostImage
 host_image ran image = record { ran = ran; image = image }
 
 abbrev pub host_image_of : ImageOutcome → HostImage
-host_image_of o = host_image (host_ran_of o.answer.verdict o.answer.written 0) o.lent
+host_image_of o = host_image (host_ran_of (write_verdict o.answer) (bytes_written o.answer) 0) o.lent
 
 abbrev pub image_write_at_of : Lent → List ℕ → HostImage
 image_write_at_of l image = host_image_of (image_write_of (state_at l) image)

@@ -13,23 +13,22 @@
 --                                   "lent memory is untouched"
 --   host_outcome_of l ran both  ==  the same of a run on the lent numbers l as the crates below hand it back, and the
 --                                   two runs that it leaves
-use Rattle.std.specs.Prelude.{ℕ}
-use Rattle.refusals.specs.declared.Verdict.{Verdict}
-use Rattle.refusals.specs.declared.Verdict.TheVariants.{Accepted, Refused}
+use Rattle.std.specs.Prelude.{ℕ, Ok, Err}
 use Rattle.refusals.specs.declared.outcome.Ran.{Ran}
 use Rattle.refusals.specs.Refusals.{number_of, place_of}
 use Rattle.refusals.specs.Runs.{Runs}
+use Rattle.refusals.specs.Verdict.{Verdict}
 use Rattle.host.specs.declared.results.HostRan.{HostRan}
 use Rattle.in_place.specs.Lent.{Lent, lent_of}
 use Rattle.state.specs.declared.Oep060Timing.{Oep060Timing}
 
 abbrev pub refusal_of : Verdict → ℕ
-refusal_of Accepted = 0
-refusal_of (Refused refusal) = number_of refusal
+refusal_of (Ok done) = 0
+refusal_of (Err refusal) = number_of refusal
 
 abbrev pub refusal_place_of : Verdict → ℕ
-refusal_place_of Accepted = 0
-refusal_place_of (Refused refusal) = place_of refusal
+refusal_place_of (Ok done) = 0
+refusal_place_of (Err refusal) = place_of refusal
 
 abbrev pub host_ran_of : Verdict → ℕ → ℕ → HostRan
 host_ran_of v count total = record { refusal = refusal_of v; place = refusal_place_of v; count = count; total = total }
@@ -43,8 +42,8 @@ abbrev pub host_outcome : HostRan → Runs → Lent → HostOutcome
 host_outcome ran both l = record { ran = ran; runs = both; lent = l }
 
 abbrev pub lent_after : Verdict → Lent → Oep060Timing → Lent
-lent_after Accepted l t = lent_of t
-lent_after (Refused refusal) l t = l
+lent_after (Ok done) l t = lent_of t
+lent_after (Err refusal) l t = l
 
 abbrev pub host_outcome_of : Lent → Ran → Runs → HostOutcome
 host_outcome_of l ran both =

@@ -2,7 +2,8 @@
 //
 // `results` has what a run or an explained step gives, as numbers, and the next state stored; `words` a batch as 32-bit
 // words. Each function here is a thin one over the crates below: raw counts and clocks are taken apart here and nowhere
-// above, and a profile comes as a number (`profile_at`).
+// above.
+// Stays a number: a profile comes, and what a step told goes, as the C interface passes them.
 #![tactic(auto)]
 
 mod results;
@@ -27,10 +28,12 @@ ghost use Rattle.window.specs.Raw.{raw_count};
 
 use class_word::Info060;
 use in_place::WindowNumbers;
+use profile::Profile;
 pub use results::{HostRan, host_ran};
 use results::{fresh_at, put_accepted, put_timing, why_number};
 use window::{Instruction, RawCount};
 
+// Stays beside `RegMasks060`: the C interface, a struct of two numbers by value.
 #[repr(C)]
 #[derive(Clone, Copy)]
 pub struct HostMasks {
@@ -82,7 +85,7 @@ pub fn timing_060_explain_at(
         ≡ explain_number_at_of (profile_at profile) (lent tags.old state.old window.old)
         (retirement_of op flags ppc pc (raw_count raw)) }
 {
-    let p = profile::profile_at(profile);
+    let p = Profile::from(profile);
     let r = state::retirement_of(op, flags, ppc, pc, RawCount(raw));
     let explained = reasons::explain_in_place(tags, state, window, p, r);
     why_number(explained)
@@ -122,7 +125,7 @@ pub fn timing_060_class_word(op: u16, profile: u32) -> u16
         uses: 0,
         defs: 0,
     };
-    let p = profile::profile_at(profile);
+    let p = Profile::from(profile);
     profile::read_in(p, op, i).word.0
 }
 
@@ -136,7 +139,7 @@ pub fn timing_060_masks_of(op: u16, profile: u32) -> HostMasks
         uses: masks.uses,
         defs: masks.defs,
     };
-    let p = profile::profile_at(profile);
+    let p = Profile::from(profile);
     let read = profile::read_in(p, op, i);
     HostMasks {
         uses: read.uses,
@@ -161,7 +164,7 @@ pub fn timing_060_run_trace_at(
         (lent tags.old state.old window.old) }
 {
     let given = in_place::timing_at(*tags, *state, *window);
-    let p = profile::profile_at(profile);
+    let p = Profile::from(profile);
     let ran = trace::run_trace(trace, costs, answers, given, p);
     let verdict = ran.verdict;
     let next = ran.timing;
@@ -186,7 +189,7 @@ pub fn timing_060_explain_trace_at(
         reasons.old (lent tags.old state.old window.old) }
 {
     let given = in_place::timing_at(*tags, *state, *window);
-    let p = profile::profile_at(profile);
+    let p = Profile::from(profile);
     let explained = reasons::explain_trace(trace, costs, answers, reasons, given, p);
     let verdict = explained.verdict;
     let last = explained.timing;
@@ -223,9 +226,10 @@ pub fn timing_060_image_write_at(
         ≡ image_write_at_of (lent tags.now state.now window.now) image.old }
 {
     let timing = in_place::timing_at(*tags, *state, *window);
-    let written = image::image_write(timing, image);
-    let verdict = written.verdict;
-    host_ran(verdict, written.written, 0)
+    match image::image_write(timing, image) {
+        Ok(written) => host_ran(Ok(()), written, 0),
+        Err(refusal) => host_ran(Err(refusal), 0, 0),
+    }
 }
 
 // The state of an image; a refused image gives a fresh state.

@@ -11,6 +11,7 @@ use refusals::Verdict;
 use state::Oep060Timing;
 
 // What a run gives.
+// Stays a number beside values: the C interface, a struct of four 64-bit numbers.
 #[repr(C)]
 #[derive(Clone, Copy)]
 pub struct HostRan {
@@ -56,9 +57,8 @@ pub fn put_accepted(
     ensures { lent tags.new state.new window.new
         ≡ lent_after verdict (lent tags.old state.old window.old) timing }
 {
-    match verdict {
-        Verdict::Accepted => put_timing(tags, state, window, timing),
-        Verdict::Refused(_) => {}
+    if verdict.is_ok() {
+        put_timing(tags, state, window, timing);
     }
 }
 
@@ -66,24 +66,15 @@ pub fn put_accepted(
 pub fn host_ran(verdict: Verdict, count: usize, total: u64) -> HostRan
     ensures { result ≡ host_ran_of verdict count total }
 {
-    let n = count as u64;
-    match verdict {
-        Verdict::Accepted => HostRan {
-            refusal: 0,
-            place: 0,
-            count: n,
-            total,
-        },
-        Verdict::Refused(refusal) => {
-            let number = refusals::number(refusal);
-            let place = refusals::place(refusal);
-            HostRan {
-                refusal: number as u64,
-                place: place as u64,
-                count: n,
-                total,
-            }
-        }
+    let (number, place) = match verdict {
+        Ok(()) => (0, 0),
+        Err(refusal) => (refusals::number(refusal), refusals::place(refusal)),
+    };
+    HostRan {
+        refusal: u64::from(number),
+        place: place as u64,
+        count: count as u64,
+        total,
     }
 }
 
@@ -91,10 +82,7 @@ pub fn host_ran(verdict: Verdict, count: usize, total: u64) -> HostRan
 pub fn why_number(x: Explained) -> u64
     ensures { result ≡ why_number x }
 {
-    let cost = x.cost;
-    let predicted = x.answer;
-    let why = x.reason;
-    let answer = cost::answer_number(predicted);
-    let reason = reasons::reason_number(why);
-    cost.0 as u64 + answer as u64 * 4294967296 + reason as u64 * 1099511627776
+    let answer = u8::from(x.answer);
+    let reason = u8::from(x.reason);
+    u64::from(x.cost.0) + u64::from(answer) * 4294967296 + u64::from(reason) * 1099511627776
 }

@@ -1,5 +1,5 @@
-// The static library that hosts in C and Rust link: the functions of `host`, under their own names and with the same
-// clauses. A crate is a library or a static library, not both.
+// The static library that hosts in C and Rust link: the functions of `host`, under their own names.
+// Stays beside `host`, clause for clause: a crate is a library or a static library, not both, and C links this one.
 #![tactic(auto)]
 
 ghost use Rattle.std.specs.Prelude.{◌≡◌, List, ℕ};

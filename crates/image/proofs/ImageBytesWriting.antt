@@ -1,10 +1,11 @@
 -- The parts of an image put one behind the other are the image put: each starts where those before it end.
-use mathlib.Core.Path.{◌≡◌, refl, ap, ◌∙◌}
-use mathlib.Core.List.{List, ◌++◌}
+use mathlib.Core.Path.{◌≡◌, refl, sym, ap, ◌∙◌}
+use mathlib.Core.List.{List, ◌++◌, append-nil}
 use Prim.Native.Nat.{ℕ, ◌+◌, ◌*◌, ◌<◌, ◌≤◌}
 use native.Mathlib.Nat.{zero-add}
 use native.Mathlib.Omega.{arith}
 use lib.ListN.{length, set, length-append, length-set}
+use Rattle.std.proofs.lemmas.List.{drop_all}
 use Rattle.little_endian.specs.Numbers.{bytes_of, put_at, bytes_of_each}
 use Rattle.little_endian.proofs.Numbers.{put_length, put_joins}
 use Rattle.window.specs.declared.Window.{Window}
@@ -69,10 +70,22 @@ pub window_bytes_lem : (w : Window) → length (window_bytes w) ≡ 4
 unfolding bytes_of
 window_bytes_lem w = refl
 
+-- an image has 1,294 bytes
+pub image_size : (tags slots : List ℕ) (w : Window) → length tags ≡ 256 → length slots ≡ 256 → length (image_bytes tags slots w) ≡ 1294
+unfolding bytes_of
+image_size tags slots w ht hs =
+    simp (length-append, each_length, ht, hs)
+
+-- bytes put over as many leave those alone
+pub put_over : (s bs : List ℕ) → length s ≡ length bs → put_at s 0 bs ≡ bs
+unfolding put_at
+put_over s bs e = rw (zero-add, ← e, drop_all (length s) s (omega arith)) (append-nil bs)
+
 -- what the five parts leave
-pub parts_put : (lent : List ℕ) → 1294 ≤ length lent → (tags slots : List ℕ) → length tags ≡ 256 → length slots ≡ 256
+pub parts_put : (lent : List ℕ) → length lent ≡ 1294 → (tags slots : List ℕ) → length tags ≡ 256 → length slots ≡ 256
     → {a b c d e : List ℕ} {w v : Window} → w ≡ v → a ≡ put_at lent 0 header_bytes → b ≡ put_at a 4 (bytes_of_each 4 tags)
     → c ≡ put_at b 1028 (bytes_of_each 1 slots) → d ≡ put_at c 1284 (window_bytes w) → e ≡ put_at d 1288 (head_bytes w)
-    → e ≡ put_at lent 0 (image_bytes tags slots v)
-parts_put lent room tags slots ht hs {v = v} ew ea eb ec ed ee =
-    rw (ee, ed, ec, eb, ea, ew) (image_put lent room tags slots (window_bytes v) (head_bytes v) ht hs (window_bytes_lem v))
+    → e ≡ image_bytes tags slots v
+parts_put lent long tags slots ht hs {v = v} ew ea eb ec ed ee =
+    rw (ee, ed, ec, eb, ea, ew) (image_put lent (omega arith) tags slots (window_bytes v) (head_bytes v) ht hs (window_bytes_lem v))
+    ∙ put_over lent (image_bytes tags slots v) (long ∙ sym (image_size tags slots v ht hs))

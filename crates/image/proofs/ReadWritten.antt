@@ -8,16 +8,16 @@ use lib.Dec.{eqb, ltb, leb}
 use lib.ListN.{length, take, drop, replicate, length-drop}
 use lib.Seq.{drop-drop, take-add, take_all}
 use borrow.Author.Tests.{not-false, eqb-true, leb-false, lt-ltb}
+use Rattle.refusals.specs.Verdict.{accepted}
 use Rattle.bits.specs.Words.{bit}
 use Rattle.bits.proofs.Bools.{and_left, and_right}
 use Rattle.little_endian.specs.Numbers.{number_at, bytes_of, Below, bytes_of_each}
 use Rattle.little_endian.proofs.Numbers.{bytes_number}
 use Rattle.window.specs.declared.Window.{Window}
 use Rattle.window.specs.Windows.{seen}
-use Rattle.refusals.specs.declared.Verdict.TheVariants.{Accepted}
 use Rattle.image.specs.Bytes.{bits_of, header_bytes, window_bytes, head_bytes}
 use Rattle.image.specs.Parts.{image_tags_of, image_slots_of, open_at, def_mask_at, bits_at, has_head, address_at, opcode_at, image_window_of}
-use Rattle.image.specs.Wrong.{header_wrong, shut_not_zero, window_wrong}
+use Rattle.image.specs.Wrong.{header_wrong, window_wrong}
 use Rattle.image.specs.Image.{image_of, image_state_of}
 use Rattle.image.specs.Entries.{image_verdict_of}
 use Rattle.image.proofs.Bits.{bits_all}
@@ -60,7 +60,7 @@ window_by_lem (suc (suc n)) d b a p h =
 
 window_says : (s : List ℕ) → window_wrong s ≡ false
     → Written (seen (image_window_of s)) (open_at s) (def_mask_at s) (bits_at s) (address_at s) (opcode_at s)
-unfolding image_window_of window_wrong shut_not_zero
+unfolding image_window_of window_wrong
 window_says s h = window_by_lem (open_at s) (def_mask_at s) (bits_at s) (address_at s) (opcode_at s) h
 
 -- the old fields of an image are its parts, one behind the other
@@ -86,7 +86,7 @@ parts s =
 between : (h t s w d : List ℕ) → h ++ t ++ s ++ w ++ d ≡ h ++ (t ++ s ++ w) ++ d
 between h t s w d = ap (λ (x : List ℕ). x ++ d) (ap (λ (x : List ℕ). x ++ w) (append_assoc h t s) ∙ append_assoc h (t ++ s) w)
 
-module _ (s : List ℕ) (b : Below 256 s) (accepted : image_verdict_of s ≡ Accepted) where
+module _ (s : List ℕ) (b : Below 256 s) (accepted : image_verdict_of s ≡ accepted) where
   number : (k at : ℕ) → at + k ≤ length s → bytes_of k (number_at k s at) ≡ take k (drop at s)
   number k at i = bytes_number k s at b i
 

@@ -14,7 +14,7 @@ use Rattle.window.specs.declared.Window.{Window}
 use Rattle.window.specs.Windows.{shut, seen}
 use Rattle.image.specs.Bytes.{bits_of, window_bytes, head_bytes}
 use Rattle.image.specs.Parts.{open_at, def_mask_at, bits_at, has_head, address_at, opcode_at, image_window_of}
-use Rattle.image.specs.Wrong.{shut_not_zero, window_wrong}
+use Rattle.image.specs.Wrong.{window_wrong}
 use Rattle.image.proofs.Bits.{bits_small, bits_apart}
 
 -- what holds of a window's numbers in the types of the code
@@ -96,11 +96,11 @@ module _ (front : List ℕ) (long : length front ≡ 1284) (w : Window) (small :
 module _ (front : List ℕ) (long : length front ≡ 1284) where
   -- an open window, and the shut one
   opened_right : (w : Window) → Small w → w.opened ≡ true → window_wrong (front ++ window_bytes w ++ head_bytes w) ≡ false
-  unfolding window_wrong shut_not_zero
+  unfolding window_wrong
   opened_right w small e = rw (open_back front long w small, bits_back front long w small) (simp (e, lt-leb _ _ (bits_small w)))
 
   shut_right : window_wrong (front ++ window_bytes shut ++ head_bytes shut) ≡ false
-  unfolding window_wrong shut_not_zero bits_of
+  unfolding window_wrong bits_of
   shut_right =
       let small : Small shut = record { mask = omega arith; opcode = omega arith; address = omega arith } in
       rw (

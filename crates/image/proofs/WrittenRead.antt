@@ -6,11 +6,11 @@ use Prim.Native.Nat.{ℕ, ◌+◌, ◌*◌, ◌^◌}
 use native.Mathlib.Omega.{arith}
 use lib.ListN.{length, length-append}
 use lib.Seq.{drop_at}
+use Rattle.refusals.specs.Verdict.{accepted}
 use Rattle.little_endian.specs.Numbers.{number_at, bytes_of, Below, bytes_of_each, numbers_at}
 use Rattle.window.specs.Windows.{seen}
 use Rattle.state.specs.declared.Oep060Timing.{Oep060Timing}
 use Rattle.state.specs.Timing.{seen_of}
-use Rattle.refusals.specs.declared.Verdict.TheVariants.{Accepted}
 use Rattle.image.specs.Bytes.{header_bytes, window_bytes, head_bytes}
 use Rattle.image.proofs.ImageBytesWriting.{header_length}
 use Rattle.image.specs.Parts.{image_tags_of, image_slots_of}
@@ -57,7 +57,7 @@ module _ (t : Oep060Timing) (r : InRange t) where
   unfolding image_of header_wrong number_at bytes_of
   header_right = rw image_length_lem
 
-  image_accepted : image_verdict_of (image_of t) ≡ Accepted
+  image_accepted : image_verdict_of (image_of t) ≡ accepted
   unfolding image_of
   image_accepted =
       image_takes (image_of t) (rw image_length_lem) header_right (window_right front before_window t.window small)
@@ -81,5 +81,5 @@ module _ (t : Oep060Timing) (r : InRange t) where
   state_back = rw (tags_back, slots_back, window_back front before_window (seen t.window) (seen_small t.window small))
 
   -- the round trip from a state
-  pub image_read_back : ◌≡◌ {A = ImageRead} (image_read_of (image_of t)) (record { verdict = Accepted; timing = seen_of t })
+  pub image_read_back : ◌≡◌ {A = ImageRead} (image_read_of (image_of t)) (record { verdict = accepted; timing = seen_of t })
   image_read_back = rw (image_accepted, state_back)

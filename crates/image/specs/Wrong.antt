@@ -21,7 +21,7 @@ kind_for s = cond (has_head s) image_kind old_kind
 unfoldable pub header_wrong : List ℕ → Bool
 header_wrong s = not (eqb (number_at 2 s 0) (payload_for s) && eqb (number_at 2 s 2) (kind_for s))
 
-unfoldable pub shut_not_zero : List ℕ → Bool
+abbrev pub shut_not_zero : List ℕ → Bool
 shut_not_zero s =
     eqb (open_at s) 0
     && not (eqb (def_mask_at s) 0 && eqb (bits_at s) 0 && eqb (address_at s) 0 && eqb (opcode_at s) 0)

@@ -45,64 +45,47 @@ const ADDRESS: usize = 1288;
 
 const OPCODE: usize = 1292;
 
-// What image writing answers.
-#[derive(Clone, Copy)]
-pub struct ImageWritten {
-    pub verdict: Verdict,
-    // How many bytes were written.
-    pub written: usize,
-}
-
 // What image reading answers.
+// Stays a verdict beside a value: a refused image gives a fresh state.
 #[derive(Clone, Copy)]
 pub struct ImageRead {
     pub verdict: Verdict,
     pub timing: Oep060Timing,
 }
 
-// The image of a state in lent bytes; those beyond it stay.
-pub fn image_write(timing: Oep060Timing, out: &mut [u8]) -> ImageWritten
+// Puts the image of a state into lent bytes: how many bytes that are, or the refusal. Those beyond it stay.
+pub fn image_write(timing: Oep060Timing, out: &mut [u8]) -> Result<usize, Refusal>
     ensures { image_outcome result out.new ≡ image_write_of timing out.old }
 {
-    if out.len() < IMAGE_LENGTH {
-        return ImageWritten {
-            verdict: Verdict::Refused(Refusal::Room(0)),
-            written: 0,
-        };
-    }
-    let tags = timing.cache.tags;
-    let slots = timing.cache.state;
-    write::put_image(tags, slots, timing.window, out);
-    ImageWritten {
-        verdict: Verdict::Accepted,
-        written: IMAGE_LENGTH,
-    }
+    let Some(image) = out.first_chunk_mut() else {
+        return Err(Refusal::Room(0));
+    };
+    write::put_image(timing, image);
+    Ok(IMAGE_LENGTH)
 }
 
 // The length of an image of either kind.
 fn either_length(n: usize) -> bool
     ensures { result ≡ (eqb n old_length || eqb n image_length) }
 {
-    if n == OLD_LENGTH {
-        return true;
-    }
-    n == IMAGE_LENGTH
+    n == OLD_LENGTH || n == IMAGE_LENGTH
 }
 
 // The first refusal of the table that holds.
+#[tactic(auto, using(crate::proofs::Refusals::long_enough), unfolding(crate::specs::Entries::image_verdict_of))]
 fn image_verdict(bytes: &[u8]) -> Verdict
     ensures { result ≡ image_verdict_of bytes.now }
 {
     if !either_length(bytes.len()) {
-        return Verdict::Refused(Refusal::ImageLength);
+        return Err(Refusal::ImageLength);
     }
     if read::header_wrong(bytes) {
-        return Verdict::Refused(Refusal::ImageHeader);
+        return Err(Refusal::ImageHeader);
     }
     if read::window_wrong(bytes) {
-        return Verdict::Refused(Refusal::ImageWindow);
+        return Err(Refusal::ImageWindow);
     }
-    Verdict::Accepted
+    Ok(())
 }
 
 fn image_state(bytes: &[u8]) -> Oep060Timing
@@ -122,8 +105,8 @@ pub fn image_read(bytes: &[u8]) -> ImageRead
 {
     let verdict = image_verdict(bytes);
     let timing = match verdict {
-        Verdict::Accepted => image_state(bytes),
-        Verdict::Refused(_) => Oep060Timing::fresh(),
+        Ok(()) => image_state(bytes),
+        Err(_) => Oep060Timing::fresh(),
     };
     ImageRead { verdict, timing }
 }

@@ -1,6 +1,5 @@
 // Part 6 of document 01: the parts of an image, read.
 ghost use Rattle.std.specs.Prelude.{◌≡◌, ◌≤◌, length, not, ◌&&◌, eqb};
-ghost use Rattle.little_endian.specs.Numbers.{number_at};
 ghost use Rattle.image.specs.Parts.{image_tags_of, image_slots_of, address_at, opcode_at, image_window_of};
 ghost use Rattle.image.specs.Wrong.{header_wrong, window_wrong};
 ghost use Rattle.image.specs.ImageLayout.{old_length};
@@ -11,27 +10,19 @@ use crate::{
 };
 use window::Window;
 
-// The header has not both this payload length and this kind.
-fn header_is_not(bytes: &[u8], payload: u16, kind: u16) -> bool
-    requires { old_length ≤ length bytes.now }
-    ensures { result
-        ≡ not (eqb (number_at 2 bytes.now 0) payload && eqb (number_at 2 bytes.now 2) kind) }
-{
-    if little_endian::u16_at(bytes, 0) != payload {
-        return true;
-    }
-    little_endian::u16_at(bytes, 2) != kind
-}
-
 // The bytes of each part are there: `image_verdict` and `image_state` call these, after the test of the length.
+// Stays a slice with a `requires`, as below: images have two lengths, an array has one, and one form serves all parts.
+#[tactic(auto, unfolding(crate::specs::Wrong::header_wrong))]
 pub fn header_wrong(bytes: &[u8]) -> bool
     requires { old_length ≤ length bytes.now }
     ensures { result ≡ header_wrong bytes.now }
 {
-    if bytes.len() == IMAGE_LENGTH {
-        return header_is_not(bytes, PAYLOAD, KIND);
-    }
-    header_is_not(bytes, OLD_PAYLOAD, OLD_KIND)
+    let (payload, kind) = if bytes.len() == IMAGE_LENGTH {
+        (PAYLOAD, KIND)
+    } else {
+        (OLD_PAYLOAD, OLD_KIND)
+    };
+    little_endian::u16_at(bytes, 0) != payload || little_endian::u16_at(bytes, 2) != kind
 }
 
 // The head's address; an image without head fields has zero.
@@ -39,9 +30,10 @@ fn head_address(bytes: &[u8]) -> u32
     ensures { result ≡ address_at bytes.now }
 {
     if bytes.len() == IMAGE_LENGTH {
-        return little_endian::u32_at(bytes, ADDRESS);
+        little_endian::u32_at(bytes, ADDRESS)
+    } else {
+        0
     }
-    0
 }
 
 // The head's opcode; an image without head fields has zero.
@@ -49,21 +41,20 @@ fn head_opcode(bytes: &[u8]) -> u16
     ensures { result ≡ opcode_at bytes.now }
 {
     if bytes.len() == IMAGE_LENGTH {
-        return little_endian::u16_at(bytes, OPCODE);
+        little_endian::u16_at(bytes, OPCODE)
+    } else {
+        0
     }
-    0
 }
 
 // A head field that is not zero.
 fn head_set(bytes: &[u8]) -> bool
     ensures { result ≡ not (eqb (address_at bytes.now) 0 && eqb (opcode_at bytes.now) 0) }
 {
-    if head_address(bytes) != 0 {
-        return true;
-    }
-    head_opcode(bytes) != 0
+    head_address(bytes) != 0 || head_opcode(bytes) != 0
 }
 
+#[tactic(auto, using(little_endian::proofs::Loops::byte_at), unfolding(crate::specs::Wrong::window_wrong))]
 pub fn window_wrong(bytes: &[u8]) -> bool
     requires { old_length ≤ length bytes.now }
     ensures { result ≡ window_wrong bytes.now }
@@ -71,22 +62,7 @@ pub fn window_wrong(bytes: &[u8]) -> bool
     let opened = bytes[OPENED];
     let defs = little_endian::u16_at(bytes, DEFS);
     let bits = bytes[BITS];
-    if opened > 1 {
-        return true;
-    }
-    if bits >= 8 {
-        return true;
-    }
-    if opened == 1 {
-        return false;
-    }
-    if defs != 0 {
-        return true;
-    }
-    if bits != 0 {
-        return true;
-    }
-    head_set(bytes)
+    opened > 1 || bits >= 8 || opened == 0 && (defs != 0 || bits != 0 || head_set(bytes))
 }
 
 pub fn image_tags(bytes: &[u8]) -> [u32; 256]
@@ -94,10 +70,8 @@ pub fn image_tags(bytes: &[u8]) -> [u32; 256]
     ensures { result ≡ image_tags_of bytes.now }
 {
     let mut tags = [0u32; 256];
-    let mut i: usize = 0;
-    while i < 256 {
-        tags[i] = little_endian::u32_at(bytes, TAGS + 4 * i);
-        i += 1;
+    for (i, tag) in tags.iter_mut().enumerate() {
+        *tag = little_endian::u32_at(bytes, TAGS + 4 * i);
     }
     tags
 }
@@ -107,11 +81,7 @@ pub fn image_slots(bytes: &[u8]) -> [u8; 256]
     ensures { result ≡ image_slots_of bytes.now }
 {
     let mut slots = [0u8; 256];
-    let mut i: usize = 0;
-    while i < 256 {
-        slots[i] = bytes[SLOTS + i];
-        i += 1;
-    }
+    slots.copy_from_slice(&bytes[SLOTS..SLOTS + 256]);
     slots
 }
 

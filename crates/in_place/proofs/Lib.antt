@@ -2,4 +2,3 @@ pub mod Paying
 pub mod Held
 pub mod NumbersHeld
 pub mod Entries
-mod Asking

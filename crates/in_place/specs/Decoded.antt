@@ -9,11 +9,11 @@
 --   instruction_in e  ==  what the entry says that its opcode is
 --   IsEntry e op i    ==  e is the entry of the opcode, and what it says is i: no bit is lost
 --   is_of op e        ==  the entry is there, and is the opcode's
---   Says p e          ==  the entry is 0, or says of its opcode what the profile p says
+--   Says p e          ==  the entry says of its opcode what the profile p says, unless it is 0
 --   Known p es        ==  each entry of the table does
 --   kept_of p op es   ==  the table after the opcode was asked: as it was, where it has the opcode; else with the
 --                         opcode's entry in its slot
-use Rattle.std.specs.Prelude.{ℕ, ◌+◌, ◌*◌, ◌/◌, ◌%◌, ◌^◌, ◌≡◌, Bool, not, cond, ◌&&◌, List, ◌⊎◌, eqb, get_or, set}
+use Rattle.std.specs.Prelude.{ℕ, ◌+◌, ◌*◌, ◌/◌, ◌%◌, ◌^◌, ◌≡◌, Bool, not, cond, ◌&&◌, List, ◌≢◌, eqb, get_or, set}
 use Rattle.std.specs.Int.Bits.{bit_xor}
 use Rattle.class_word.specs.Word.{info}
 use Rattle.window.specs.declared.dispatch.Instruction.{Instruction}
@@ -39,7 +39,7 @@ abbrev pub is_of : ℕ → ℕ → Bool
 is_of op e = not (eqb e 0) && eqb (op_in e) op
 
 abbrev pub Says : Profile → ℕ → Type 0
-Says p e = (e ≡ 0) ⊎ (instruction_in e ≡ profile_of p (op_in e))
+Says p e = e ≢ 0 → instruction_in e ≡ profile_of p (op_in e)
 
 abbrev pub Known : Profile → List ℕ → Type 0
 Known p es = (n : ℕ) → Says p (get_or es n 0)

@@ -12,9 +12,9 @@
 --                              lent numbers l
 --   retire_at_of p l r     ==  the retirement r on the lent numbers l, in the profile p
 --   event_at_of p l e      ==  the lent numbers after the event e
---   paid_for p l e         ==  the event e on the lent numbers l: what it costs and what the cache predicted, 0 and 0
---                              for any but a retirement, and every lent number afterwards
-use Rattle.std.specs.Prelude.{ℕ, ◌/◌, ◌%◌, ◌^◌}
+--   paid_for p l e         ==  what is paid for the event e on the lent numbers l: what a retirement costs and what the
+--                              cache predicted; nothing for any other event
+use Rattle.std.specs.Prelude.{ℕ, ◌/◌, ◌%◌, ◌^◌, Option, Some, None}
 use Rattle.class_word.specs.declared.Clocks.{Clocks}
 use Rattle.class_word.specs.Word.{clocks}
 use Rattle.cost.specs.Branch.{answer_number}
@@ -28,6 +28,7 @@ use Rattle.profile.specs.declared.Profile.{Profile}
 use Rattle.state.specs.Timing.{stepped_by}
 use Rattle.step.specs.Boards.{stepped_of, after_of}
 use Rattle.in_place.specs.Lent.{Lent, state_at, lent_of}
+use Rattle.in_place.specs.declared.events.Paid as events
 
 pub record Paid : Type 0 where
   pub cost : Clocks
@@ -58,8 +59,8 @@ retire_at_of p l r = paid_of (stepped_of p (state_at l) r)
 abbrev pub event_at_of : Profile → Lent → Event → Lent
 event_at_of p l e = lent_of (after_of p (state_at l) e)
 
-abbrev pub paid_for : Profile → Lent → Event → Paid
-paid_for p l (Retired r) = retire_at_of p l r
-paid_for p l Broken = paid (clocks 0) 0 (event_at_of p l Broken)
-paid_for p l ClearedAll = paid (clocks 0) 0 (event_at_of p l ClearedAll)
-paid_for p l ClearedUser = paid (clocks 0) 0 (event_at_of p l ClearedUser)
+abbrev pub paid_for : Profile → Lent → Event → Option events.Paid
+paid_for p l (Retired r) = Some (record { cost = (retire_at_of p l r).cost; answer = (retire_at_of p l r).answer })
+paid_for p l Broken = None
+paid_for p l ClearedAll = None
+paid_for p l ClearedUser = None

@@ -5,11 +5,12 @@ ghost use Rattle.cost.specs.Branch.{taken_of};
 ghost use Rattle.state.specs.Timing.{asked, asked_of};
 
 use cost::Answer;
-use state::{answer_of, consulted};
+use state::consulted;
 use window::{Controls, Instruction};
 
 // What the cache says of a retirement; of the arrays only the slot of its ppc is stored, and only where the cache is
 // asked.
+// Stays without a caller: its promise landed (docs/DECISIONS.md, "What had landed stays beside the speed work").
 pub fn ask_in_place(
     tags: &mut [u32; 256],
     state: &mut [u8; 256],
@@ -24,6 +25,7 @@ pub fn ask_in_place(
 }
 
 // The same, for a caller that knows whether the branch was taken.
+#[tactic(auto, unfolding(state::specs::Events::answer_of, state::specs::Events::cache_after))]
 pub fn ask_told(
     tags: &mut [u32; 256],
     state: &mut [u8; 256],
@@ -38,7 +40,8 @@ pub fn ask_told(
 {
     if consulted(i, k) {
         let predicted = branch_cache::update_at(tags, state, k.ppc, taken, !k.supervisor);
-        return answer_of(predicted);
+        Answer::from(predicted)
+    } else {
+        Answer::NotConsulted
     }
-    Answer::NotConsulted
 }

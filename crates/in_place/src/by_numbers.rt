@@ -2,7 +2,7 @@
 ghost use Rattle.std.specs.Prelude.{◌≡◌};
 ghost use Rattle.in_place.specs.Lent.{lent, state_at};
 
-use crate::windows::WindowNumbers;
+use crate::windows::{WindowNumbers, window_at};
 use branch_cache::BranchCache060;
 use state::Oep060Timing;
 
@@ -10,7 +10,8 @@ use state::Oep060Timing;
 pub fn timing_at(tags: [u32; 256], state: [u8; 256], window: WindowNumbers) -> Oep060Timing
     ensures { result ≡ state_at (lent tags state window) }
 {
-    let cache = BranchCache060 { tags, state };
-    let window = crate::windows::window_at(window);
-    Oep060Timing { cache, window }
+    Oep060Timing {
+        cache: BranchCache060 { tags, state },
+        window: window_at(window),
+    }
 }

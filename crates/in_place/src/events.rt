@@ -1,10 +1,9 @@
 // Breaks and clears on the numbers that are lent for a state, and any event.
-ghost use Rattle.std.specs.Prelude.{◌≡◌, List, [], ◌∷◌, ℕ};
+ghost use Rattle.std.specs.Prelude.{◌≡◌, List, ℕ};
 ghost use Rattle.profile.specs.declared.Profile.{Profile};
 ghost use Rattle.state.specs.declared.Event.TheVariants.{ClearedAll, ClearedUser};
-ghost use Rattle.state.specs.Events.{count_of};
 ghost use Rattle.in_place.specs.Lent.{lent};
-ghost use Rattle.in_place.specs.Retire.{paid, event_at_of, paid_for};
+ghost use Rattle.in_place.specs.Retire.{event_at_of, paid_for};
 
 use crate::retire_in_place;
 use crate::told::{answer_in, clocks_in};
@@ -14,10 +13,10 @@ use class_word::Clocks;
 use profile::Profile;
 use state::Event;
 
-// How many retirements an event is, its clocks, and what the cache predicted, as a number.
+// What a retirement costs, and what the cache predicted.
+// Stays a number of an answer: it is stored as it comes, a byte of a lent run; an `Answer` would be made for that.
 #[derive(Clone, Copy)]
-pub struct Happened {
-    pub count: usize,
+pub struct Paid {
     pub cost: Clocks,
     pub answer: u8,
 }
@@ -40,58 +39,42 @@ pub fn clear_user_at(state: &mut [u8; 256], window: &mut WindowNumbers)
         tags: [0; 256],
         state: *state,
     };
-    let cleared = cache.clear_user();
-    let bytes = cleared.state;
+    let bytes = cache.clear_user().state;
     *state = bytes;
     see_window(window);
 }
 
-// One event on lent numbers.
+// One event on lent numbers; only a retirement is paid.
+#[tactic(auto, unfolding(state::specs::Timing::stepped_by))]
 pub fn event_at(
     tags: &mut [u32; 256],
     state: &mut [u8; 256],
     window: &mut WindowNumbers,
     profile: Profile,
     e: Event,
-) -> Happened
-    ensures { (paid result.cost result.answer (lent tags.new state.new window.new)
-        ≡ paid_for profile (lent tags.old state.old window.old) e) × (result.count
-        ≡ count_of (e ∷ [])) }
+) -> Option<Paid>
+    ensures paid { result ≡ paid_for profile (lent tags.old state.old window.old) e }
+    ensures window_after { lent tags.new state.new window.new
+        ≡ event_at_of profile (lent tags.old state.old window.old) e }
 {
     match e {
         Event::Retired(r) => {
             let told = retire_in_place(tags, state, window, profile, r);
             let cost = clocks_in(told);
             let answer = answer_in(told);
-            Happened {
-                count: 1,
-                cost,
-                answer,
-            }
+            Some(Paid { cost, answer })
         }
         Event::Broken => {
             shut_window(window);
-            Happened {
-                count: 0,
-                cost: Clocks(0),
-                answer: 0,
-            }
+            None
         }
         Event::ClearedAll => {
             clear_all_at(state, window);
-            Happened {
-                count: 0,
-                cost: Clocks(0),
-                answer: 0,
-            }
+            None
         }
         Event::ClearedUser => {
             clear_user_at(state, window);
-            Happened {
-                count: 0,
-                cost: Clocks(0),
-                answer: 0,
-            }
+            None
         }
     }
 }

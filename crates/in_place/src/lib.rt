@@ -4,6 +4,7 @@
 // three points of a retirement, `decoded` the opcodes that a run has decoded, `told` the two numbers that a step hands
 // back, and `events` breaks and clears. The step here equals the one by value (`step`): both are the definition's. It
 // carries no state and stores at most one slot. A single step looks its opcode up; a run asks its table first.
+// Stays three lent references: the C interface lends tags, slots and window apart, here and in all runs above.
 #![tactic(auto)]
 
 mod ask;
@@ -25,8 +26,8 @@ ghost use Rattle.window.specs.Raw.{raw_count};
 
 pub use by_numbers::timing_at;
 use class_word::F_BRANCH;
-pub use decoded::{DECODED, Decoded, decoded_060};
-pub use events::{Happened, clear_all_at, clear_user_at, event_at};
+pub use decoded::{DECODED, Decoded};
+pub use events::{Paid, clear_all_at, clear_user_at, event_at};
 pub use points::{retire_branch, retire_flow, retire_neither};
 use profile::Profile;
 use state::Retirement;
@@ -37,6 +38,7 @@ pub use windows::{WINDOW_NUMBERS, WindowNumbers, put_window, see_window, shut_wi
 // The step of a number, and the one place where an opcode is looked up: the compiler lays a function so large into a
 // single caller alone. It is asked by a number, of which bit 0 is the profile's: to retire, or, where bit 1 is set,
 // only what the profile has of the opcode, as an entry; then the lent numbers stay.
+// Stays a number, not an enum: one test in the single step for profile and entry (docs/SPEED.md).
 fn step_at(
     tags: &mut [u32; 256],
     state: &mut [u8; 256],
@@ -60,7 +62,7 @@ fn step_at(
     let mut i = found;
     // One test for what is asked most: to retire by the crate's profile.
     if asked != 0 {
-        let p = profile::profile_at(asked & 1);
+        let p = Profile::from(asked & 1);
         i = profile::read_in(p, op, found);
         if asked & 2 != 0 {
             return decoded::entry_of(op, i);
@@ -76,7 +78,8 @@ fn step_at(
     retire_neither(window, op, i, k)
 }
 
-// The step.
+// The step in a profile.
+// Stays a call between two: its promise landed (docs/DECISIONS.md, "What had landed stays beside the speed work").
 fn retire(
     tags: &mut [u32; 256],
     state: &mut [u8; 256],
@@ -92,12 +95,12 @@ fn retire(
         ≡ retire_at_of profile (lent tags.old state.old window.old)
         (retirement_of op flags ppc pc raw) }
 {
-    let number = profile::number_of(profile);
+    let number = u32::from(profile);
     step_at(tags, state, window, number, op, flags, ppc, pc, raw.0)
 }
 
-// One retirement of these numbers, the profile's among them: its clocks and what the cache predicted. Numbers go
-// through a call in registers, where structs would go through memory.
+// One retirement of these numbers, the profile's among them: its clocks and what the cache predicted.
+// Stays numbers: they go through a call in registers, where structs would go through memory (docs/SPEED.md).
 pub fn retire_at(
     tags: &mut [u32; 256],
     state: &mut [u8; 256],
@@ -113,11 +116,12 @@ pub fn retire_at(
         ≡ retire_at_of (profile_at profile) (lent tags.old state.old window.old)
         (retirement_of op flags ppc pc (raw_count raw)) }
 {
-    let p = profile::profile_at(profile);
+    let p = Profile::from(profile);
     retire(tags, state, window, p, op, flags, ppc, pc, RawCount(raw))
 }
 
 // What the profile has of an opcode, as an entry. The lent numbers stay.
+#[tactic(auto, using(crate::proofs::Entries::asked_entry, crate::proofs::Entries::number_small))]
 fn entry_at(
     tags: &mut [u32; 256],
     state: &mut [u8; 256],
@@ -129,11 +133,11 @@ fn entry_at(
     ensures window_unchanged { lent tags.new state.new window.new
         ≡ lent tags.old state.old window.old }
 {
-    let number = profile::number_of(profile);
+    let number = u32::from(profile);
     step_at(tags, state, window, number + 2, op, 0, 0, 0, 0)
 }
 
-// The same for a caller that has the retirement as a struct.
+// What `retire_at` does, for a caller that has the retirement as a struct.
 pub fn retire_in_place(
     tags: &mut [u32; 256],
     state: &mut [u8; 256],
@@ -146,7 +150,7 @@ pub fn retire_in_place(
 {
     let k = r.controls;
     let flags = state::control_flags(k);
-    let number = profile::number_of(profile);
+    let number = u32::from(profile);
     retire_at(
         tags, state, window, number, r.op, flags, k.ppc, k.pc, k.raw.0,
     )

@@ -1,5 +1,5 @@
-// Document 01, "One retirement": its three points on lent numbers, of an instruction that was looked up. Single step,
-// batch and trace run each take them apart: a function of all three would stay a call in each.
+// Document 01, "One retirement": its three points on lent numbers, of an instruction that was looked up.
+// Stays three functions, taken apart in single step, batch and trace run: one of all three would stay a call in each.
 ghost use Rattle.std.specs.Prelude.{◌≡◌, true, false, List, ℕ};
 ghost use Rattle.class_word.specs.Word.{has, BRANCH};
 ghost use Rattle.window.specs.declared.dispatch.Instruction.{Instruction};
@@ -31,9 +31,7 @@ pub fn retire_branch(
     let w = window_at(*window);
     shut_window(window);
     let branch = cost::branch_cost_060(i.word.has(F_DBCC), taken, w.opened, predicted);
-    let cost = branch.cost;
-    let answer = branch.answer;
-    told(cost, answer)
+    told(branch.cost, branch.answer)
 }
 
 // The second: another change of flow. Tags and slots stay, and are not lent.
@@ -58,12 +56,10 @@ pub fn retire_neither(window: &mut WindowNumbers, op: u16, i: Instruction, k: Co
 {
     let w = window_at(*window);
     let charged = cost::charge_neither(i, k, w);
-    let cost = charged.cost;
-    let both = told(cost, Answer::NotConsulted);
     if charged.heads {
         put_head(window, op, i, k);
     } else {
         shut_window(window);
     }
-    both
+    told(charged.cost, Answer::NotConsulted)
 }

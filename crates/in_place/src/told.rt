@@ -1,5 +1,6 @@
 // What a single step hands back, its clocks and what the cache predicted, as one number: it goes through a register,
 // where a struct of two would go through memory.
+// Stays two numbers in one: `timing_060_retire_at` of the C interface hands it back, and a struct costs speed.
 ghost use Rattle.std.specs.Prelude.{◌≡◌, ◌%◌};
 ghost use Rattle.cost.specs.Branch.{answer_number};
 ghost use Rattle.in_place.specs.Retire.{clocks_in, answer_in};
@@ -10,7 +11,7 @@ use cost::Answer;
 pub fn told(cost: Clocks, answer: Answer) -> u64
     ensures { (clocks_in result ≡ cost) × (answer_in result ≡ answer_number answer) }
 {
-    let number = cost::answer_number(answer);
+    let number = u8::from(answer);
     cost.0 as u64 + number as u64 * 4294967296
 }
 

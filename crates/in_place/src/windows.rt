@@ -5,13 +5,13 @@ ghost use Rattle.cost.specs.Cost.{as_head};
 ghost use Rattle.in_place.specs.WindowNumbers.{window_at, numbers_of};
 
 use class_word::F_DEFINES_CCR;
-use state::number;
 use window::{Controls, Instruction, Window};
 
 pub const WINDOW_NUMBERS: usize = 8;
 
 // Open; the registers that the head defines; whether it defines the CCR, accesses memory, was cached; its opcode; its
 // address, the low half first.
+// Stays numbers by their places: so the C interface lends them.
 pub type WindowNumbers = [u16; WINDOW_NUMBERS];
 
 pub fn window_at(ns: WindowNumbers) -> Window
@@ -32,11 +32,11 @@ pub fn put_window(window: &mut WindowNumbers, w: Window)
     ensures { window.new ≡ numbers_of w }
 {
     *window = [
-        number(w.opened),
+        u16::from(w.opened),
         w.defs,
-        number(w.ccr),
-        number(w.mem),
-        number(w.warm),
+        u16::from(w.ccr),
+        u16::from(w.mem),
+        u16::from(w.warm),
         w.op,
         (w.address % 65536) as u16,
         (w.address / 65536) as u16,
@@ -55,20 +55,20 @@ pub fn see_window(window: &mut WindowNumbers)
     ensures { window.new ≡ numbers_of (seen (window_at window.old)) }
 {
     let came = window_at(*window);
-    let read = came.seen();
-    put_window(window, read);
+    put_window(window, came.seen());
 }
 
-// The window with this instruction as head, as numbers: no struct is made on the way.
+// The window with this instruction as head, as numbers.
+// Stays beside `put_window`, whose form it shares: no struct is made on the way, as each costs speed (docs/SPEED.md).
 pub fn put_head(window: &mut WindowNumbers, op: u16, i: Instruction, k: Controls)
     ensures { window.new ≡ numbers_of (as_head op i k) }
 {
     *window = [
         1,
         i.defs,
-        number(i.word.has(F_DEFINES_CCR)),
-        number(window::memory(i.word)),
-        number(k.cached),
+        u16::from(i.word.has(F_DEFINES_CCR)),
+        u16::from(window::memory(i.word)),
+        u16::from(k.cached),
         op,
         (k.ppc % 65536) as u16,
         (k.ppc / 65536) as u16,

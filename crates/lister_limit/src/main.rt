@@ -7,25 +7,21 @@
 use listing::LISTING_ROOM;
 use profile::Profile;
 use state::Oep060Timing;
-use std::io;
+use std::{array, io};
 
-// The byte at a place of a trace of breaks: length 0, kind 2.
-fn break_at(i: usize) -> u8 {
-    if i % 4 == 2 { 2 } else { 0 }
+// A trace of breaks, each of length 0 and kind 2.
+fn breaks() -> [u8; 65537] {
+    array::from_fn(|i| if i % 4 == 2 { 2 } else { 0 })
 }
 
 fn list(rt: &impl Print, trace: &[u8]) -> io::Result<()> {
     let mut text = [0u8; LISTING_ROOM];
     let listed = listing::list_trace(trace, &mut text, Oep060Timing::fresh(), Profile::Crate);
-    let len = listed.len;
-    rt.write_all(&text[..len])
+    rt.write_all(&text[..listed.len])
 }
 
 fn main(rt: HostRuntime) -> io::Result<()> {
-    let mut bytes = [0u8; 65537];
-    for i in 0..65537 {
-        bytes[i] = break_at(i);
-    }
+    let bytes = breaks();
     list(&rt, &bytes[..65536])?;
     list(&rt, &bytes)
 }

@@ -14,16 +14,13 @@ use Rattle.state.specs.declared.Event.{Event}
 use Rattle.state.specs.declared.Event.TheVariants.{Retired, Broken, ClearedAll, ClearedUser}
 use Rattle.records.specs.declared.kinds.Kind.{Kind}
 use Rattle.records.specs.declared.kinds.Kind.TheVariants.{Retirement, Break, ClearAll, ClearUser}
-use Rattle.records.specs.declared.kinds.KindRead.{KindRead}
-use Rattle.records.specs.declared.kinds.KindRead.TheVariants.{Known, Unknown}
-use Rattle.records.specs.declared.record.Read.{Read}
-use Rattle.records.specs.declared.record.Read.TheVariants.{Got, Bad, End}
+use Rattle.records.specs.declared.kinds.UnknownKind.{UnknownKind}
+use Rattle.std.specs.Prelude.{Some, None, Result, Ok, Err}
 use Rattle.records.specs.Kinds.{kind_of}
-use Rattle.refusals.specs.declared.Verdict.{Verdict}
-use Rattle.refusals.specs.declared.Verdict.TheVariants.{Accepted, Refused}
+use Rattle.refusals.specs.Verdict.{Verdict}
 use Rattle.records.specs.Faults.{next_place, fault_at}
 use Rattle.records.specs.Layout.{retirement_at, kind_at}
-use Rattle.records.specs.Record.{remaining, event_at, taken_by, record_at, body_at, read_at}
+use Rattle.records.specs.Record.{Read, got, remaining, event_at, taken_by, record_at, body_at, read_at}
 use Rattle.records.specs.Trace.{Trace, events, refused, ahead, go_on, read_in, read_from, read_trace}
 use Rattle.records.proofs.Choices.{by_test}
 use Rattle.records.proofs.Walking.{got_within}
@@ -49,9 +46,9 @@ Raws [] = Unit {0}
 Raws (e ∷ es) = Raw e × Raws es
 
 abbrev RawRead : Read → Type 0
-RawRead End = Unit {0}
-RawRead (Bad refusal) = Unit {0}
-RawRead (Got e next) = Raw e
+RawRead (Ok None) = Unit {0}
+RawRead (Err refusal) = Unit {0}
+RawRead (Ok (Some (e, next))) = Raw e
 
 raw_event : (trace : List ℕ) (at : ℕ) (k : Kind) → Raw (event_at trace at k)
 unfolding retirement_at
@@ -61,13 +58,13 @@ raw_event trace at ClearAll = tt
 raw_event trace at ClearUser = tt
 
 raw_taken : (trace : List ℕ) (at : ℕ) (k : Kind) (verdict : Verdict) → RawRead (taken_by verdict (event_at trace at k) (next_place at k))
-raw_taken trace at k Accepted = raw_event trace at k
-raw_taken trace at k (Refused refusal) = tt
+raw_taken trace at k (Ok done) = raw_event trace at k
+raw_taken trace at k (Err refusal) = tt
 
-raw_body : (trace : List ℕ) (at : ℕ) (k : KindRead) → RawRead (body_at trace at k)
+raw_body : (trace : List ℕ) (at : ℕ) (k : Result Kind UnknownKind) → RawRead (body_at trace at k)
 unfolding record_at
-raw_body trace at Unknown = tt
-raw_body trace at (Known k) = raw_taken trace at k (fault_at trace at k)
+raw_body trace at (Err none) = tt
+raw_body trace at (Ok k) = raw_taken trace at k (fault_at trace at k)
 
 raw_read : (trace : List ℕ) (at : ℕ) → RawRead (read_at trace at)
 unfolding read_at
@@ -75,7 +72,7 @@ raw_read trace at =
     by_test RawRead (eqb (remaining trace at) 0) _ _ (λ _. tt)
     (λ _. by_test RawRead (ltb (remaining trace at) 4) _ _ (λ _. tt) (λ _. raw_body trace at (kind_of (kind_at trace at))))
 
-pub got_raw : (trace : List ℕ) (at : ℕ) {e : Event} {next : ℕ} → read_at trace at ≡ Got e next → Raw e
+pub got_raw : (trace : List ℕ) (at : ℕ) {e : Event} {next : ℕ} → read_at trace at ≡ got e next → Raw e
 got_raw trace at q = subst RawRead q (raw_read trace at)
 
 -- what holds of the events of a trace that stands in so many bytes
@@ -89,9 +86,9 @@ short_ahead size rest e (refused refusal) h w q = tt
 
 short_on : (trace : List ℕ) (at : ℕ) (f : ℕ → Trace) → ((next : ℕ) → Short (remaining trace next) (f next)) → (r : Read) → read_at trace at ≡ r
     → Short (remaining trace at) (go_on f r)
-short_on trace at f h End q = (omega arith, tt)
-short_on trace at f h (Bad refusal) q = tt
-short_on trace at f h (Got e next) q =
+short_on trace at f h (Ok None) q = (omega arith, tt)
+short_on trace at f h (Err refusal) q = tt
+short_on trace at f h (Ok (Some (e, next))) q =
     let w = got_within trace at e next q in
     short_ahead (remaining trace at) (remaining trace next) e (f next) (omega (arith, count_one e)) (got_raw trace at q) (h next)
 

@@ -1,6 +1,6 @@
 -- Writing the lines, come to a place of the trace: what is left of them, written from here, gives all of them.
 -- Assumes nothing.
-use Prim.Native.Nat.{ℕ, ◌+◌, ◌-◌, ◌*◌, ◌≤◌, ◌<◌}
+use Prim.Native.Nat.{ℕ, ◌+◌, ◌*◌, ◌≤◌}
 use mathlib.Core.Path.{◌≡◌, refl, sym, ap, subst, ◌∙◌}
 use mathlib.Core.List.{List, [], ◌∷◌, ◌++◌}
 use native.Mathlib.Nat.{add-zero}
@@ -13,11 +13,11 @@ use Rattle.state.specs.declared.Retirement.{Retirement}
 use Rattle.state.specs.declared.Event.{Event}
 use Rattle.state.specs.declared.Event.TheVariants.{Retired, Broken, ClearedAll, ClearedUser}
 use Rattle.refusals.specs.declared.Refusal.{Refusal}
-use Rattle.records.specs.declared.record.Read.TheVariants.{Got, Bad, End}
-use Rattle.records.specs.Record.{read_at}
+use Rattle.std.specs.Prelude.{Err}
+use Rattle.records.specs.Record.{got, ended, read_at}
 use Rattle.records.specs.Trace.{Trace, events, refused, ahead, read_from}
 use Rattle.records.specs.Judged.{Fits}
-use Rattle.records.proofs.Walking.{got_within, from_end, from_bad, from_got}
+use Rattle.records.proofs.Walking.{from_end, from_bad, from_got}
 use Rattle.records.proofs.Judging.{fits_ahead, fits_room}
 use Rattle.listing.specs.Lines.{retirement_line}
 use Rattle.listing.specs.Printed.{lines_read, lines_of}
@@ -28,6 +28,13 @@ no_line k bytes (Retired r) es z = absurd (omega arith)
 no_line k bytes Broken es z = refl
 no_line k bytes ClearedAll es z = refl
 no_line k bytes ClearedUser es z = refl
+
+-- an event that is no retirement
+pub none_counted : (e : Event) → ((r : Retirement) → e ≡ Retired r → ⊥) → count_of (e ∷ []) ≡ 0
+none_counted (Retired r) f = absurd (f r refl)
+none_counted Broken f = refl
+none_counted ClearedAll f = refl
+none_counted ClearedUser f = refl
 
 quiet : (k room : ℕ) (bytes : List ℕ) (e : Event) (said : Trace) → count_of (e ∷ []) ≡ 0 → Fits k room (ahead e said)
     → lines_of k bytes (ahead e said) ≡ lines_of k bytes said
@@ -46,15 +53,15 @@ pub record Going (trace bytes out₀ : List ℕ) (start : ℕ) (out : List ℕ) 
   pub leads : written_of out place (lines_of k bytes (read_from trace at)) ≡ written_of out₀ start (lines_of 0 bytes (read_from trace 0))
 
 module _ {trace bytes out₀ : List ℕ} {start : ℕ} {out : List ℕ} {place at k : ℕ} (g : Going trace bytes out₀ start out place at k) where
-  pub going_end : read_at trace at ≡ End → written place out ≡ written_of out₀ start (lines_of 0 bytes (read_from trace 0))
+  pub going_end : read_at trace at ≡ ended → written place out ≡ written_of out₀ start (lines_of 0 bytes (read_from trace 0))
   going_end q =
       let e = ap (λ (said : Trace). written_of out place (lines_of k bytes said)) (from_end trace at q) in
       sym (written_none out place) ∙ sym e ∙ g.leads
 
-  pub going_bad : (refusal : Refusal) → read_at trace at ≡ Bad refusal → ⊥
+  pub going_bad : (refusal : Refusal) → read_at trace at ≡ Err refusal → ⊥
   going_bad refusal q = subst (Fits k (length bytes)) (from_bad trace at refusal q) g.fits
 
-  module _ (e : Event) (next : ℕ) (q : read_at trace at ≡ Got e next) where
+  module _ (e : Event) (next : ℕ) (q : read_at trace at ≡ got e next) where
     here : read_from trace at ≡ ahead e (read_from trace next)
     here = from_got trace at e next q
 
@@ -64,11 +71,9 @@ module _ {trace bytes out₀ : List ℕ} {start : ℕ} {out : List ℕ} {place a
     fits_next : Fits (k + count_of (e ∷ [])) (length bytes) (read_from trace next)
     fits_next = fits_ahead k (length bytes) e (read_from trace next) fits_here
 
-    pub going_nearer : length trace - next < length trace - at
-    going_nearer = let w = got_within trace at e next q in omega arith
-
-    pub going_quiet : count_of (e ∷ []) ≡ 0 → Going trace bytes out₀ start out place next k
-    going_quiet z =
+    pub going_quiet : ((r : Retirement) → e ≡ Retired r → ⊥) → Going trace bytes out₀ start out place next k
+    going_quiet f =
+        let z = none_counted e f in
         let same_lines = ap (lines_of k bytes) here ∙ quiet k (length bytes) bytes e (read_from trace next) z fits_here in
         record {
           same = g.same;
@@ -77,19 +82,16 @@ module _ {trace bytes out₀ : List ℕ} {start : ℕ} {out : List ℕ} {place a
           leads = rw (← same_lines) g.leads;
         }
 
-  module _ {e : Event} {next : ℕ} (q : read_at trace at ≡ Got e next) {r : Retirement} (told : e ≡ Retired r) where
-    retired : read_at trace at ≡ Got (Retired r) next
-    retired = q ∙ ap (λ (x : Event). Got x next) told
-
+  module _ {r : Retirement} {next : ℕ} (q : read_at trace at ≡ got (Retired r) next) where
     pub going_cost : 4 * k + 4 ≤ length bytes
-    going_cost = omega (arith, fits_room (k + 1) (length bytes) (read_from trace next) (fits_next (Retired r) next retired))
+    going_cost = omega (arith, fits_room (k + 1) (length bytes) (read_from trace next) (fits_next (Retired r) next q))
 
     this : List ℕ
     this = retirement_line k r.op (number_at 4 bytes (4 * k))
 
     split : lines_of k bytes (read_from trace at) ≡ this ++ lines_of (k + 1) bytes (read_from trace next)
     unfolding this
-    split = ap (lines_of k bytes) (here (Retired r) next retired) ∙ line k (length bytes) bytes r (read_from trace next) (fits_here (Retired r) next retired)
+    split = ap (lines_of k bytes) (here (Retired r) next q) ∙ line k (length bytes) bytes r (read_from trace next) (fits_here (Retired r) next q)
 
     room_here : place + length this + length (lines_of (k + 1) bytes (read_from trace next)) ≤ length out₀
     room_here = omega (arith, g.room, ap length split, length-append this (lines_of (k + 1) bytes (read_from trace next)))
@@ -107,6 +109,6 @@ module _ {trace bytes out₀ : List ℕ} {start : ℕ} {out : List ℕ} {place a
         record {
           same = w.same ∙ g.same;
           room = omega (arith, room_here);
-          fits = fits_next (Retired r) next retired;
+          fits = fits_next (Retired r) next q;
           leads = wrote_then w (lines_of (k + 1) bytes (read_from trace next)) (omega (arith, g.same, room_here)) ∙ rw (← split) g.leads;
         }

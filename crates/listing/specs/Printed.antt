@@ -7,12 +7,11 @@
 --   Ready v trace bytes room         ==  so many lent bytes have room for the text by the verdict v; where the trace is
 --                                        accepted, a cost stands in the bytes for each of its retirements
 --   printed v trace bytes count sum  ==  the text by the verdict v: the refusal, or the whole table
-use Rattle.std.specs.Prelude.{ℕ, ◌+◌, ◌*◌, ◌≤◌, List, [], ◌∷◌, ◌++◌, length}
+use Rattle.std.specs.Prelude.{ℕ, ◌+◌, ◌*◌, ◌≤◌, List, [], ◌∷◌, ◌++◌, Ok, Err, length}
 use Rattle.little_endian.specs.Numbers.{number_at}
 use Rattle.state.specs.declared.Event.{Event}
 use Rattle.state.specs.declared.Event.TheVariants.{Retired, Broken, ClearedAll, ClearedUser}
-use Rattle.refusals.specs.declared.Verdict.{Verdict}
-use Rattle.refusals.specs.declared.Verdict.TheVariants.{Accepted, Refused}
+use Rattle.refusals.specs.Verdict.{Verdict}
 use Rattle.records.specs.Trace.{Trace, events, refused, read_trace}
 use Rattle.records.specs.Judged.{Fits}
 use Rattle.listing.specs.Lines.{refusal_line, header_line, retirement_line, total_line}
@@ -30,10 +29,10 @@ lines_of index bytes (events es) = lines_read index bytes es
 lines_of index bytes (refused refusal) = []
 
 abbrev pub Ready : Verdict → List ℕ → List ℕ → ℕ → Type 0
-Ready Accepted trace bytes room = Fits 0 (length bytes) (read_trace trace)
+Ready (Ok done) trace bytes room = Fits 0 (length bytes) (read_trace trace)
     × (length (lines_of 0 bytes (read_trace trace)) + 68 ≤ room)
-Ready (Refused refusal) trace bytes room = 53 ≤ room
+Ready (Err refusal) trace bytes room = 53 ≤ room
 
 abbrev pub printed : Verdict → List ℕ → List ℕ → ℕ → ℕ → List ℕ
-printed Accepted trace bytes count sum = header_line ++ lines_of 0 bytes (read_trace trace) ++ total_line count sum
-printed (Refused refusal) trace bytes count sum = refusal_line refusal
+printed (Ok done) trace bytes count sum = header_line ++ lines_of 0 bytes (read_trace trace) ++ total_line count sum
+printed (Err refusal) trace bytes count sum = refusal_line refusal

@@ -21,11 +21,17 @@ use state::Oep060Timing;
 // The longest trace that the tools take.
 pub const MOST_LISTED_BYTES: usize = 65536;
 
-// Room for the longest text: 3,276 retirements of 20 bytes, a line of at most 20 characters each, the header and the
-// total.
+// A trace of 65,536 bytes has at most so many retirements, of 20 bytes each.
+const MOST_RETIREMENTS: usize = 3276;
+
+// 4 bytes for the cost of each.
+const COSTS_ROOM: usize = 13104;
+
+// Room for the longest text: a line of at most 20 characters for each retirement, the header and the total.
 pub const LISTING_ROOM: usize = 65600;
 
 // What listing a trace gives.
+// Stays a verdict beside values: a refused trace has a text and a state too.
 #[derive(Clone, Copy)]
 pub struct Listed {
     pub verdict: Verdict,
@@ -38,12 +44,11 @@ pub struct Listed {
 // Runs a trace of at most so many bytes; a longer one is refused.
 fn run_short(
     trace: &[u8],
-    costs: &mut [u8],
-    answers: &mut [u8],
+    costs: &mut [u8; COSTS_ROOM],
+    answers: &mut [u8; MOST_RETIREMENTS],
     timing: Oep060Timing,
     profile: Profile,
 ) -> Ran
-    requires { (13104 ≤ length costs.old) × (3276 ≤ length answers.old) }
     ensures { trace_outcome result (runs costs.new answers.new)
         ≡ trace_outcome_of profile (short_trace_of trace.now) (runs costs.old answers.old)
         timing }
@@ -60,17 +65,15 @@ pub fn list_into(trace: &[u8], out: &mut [u8], timing: Oep060Timing, profile: Pr
     ensures { listing_outcome result out.new
         ≡ list_trace_of profile trace.now out.old timing }
 {
-    // 4 bytes and 1 byte for each retirement that such a trace can have; the lister prints no answer.
-    let mut costs = [0u8; 13104];
-    let mut answers = [0u8; 3276];
+    let mut costs = [0u8; COSTS_ROOM];
+    // The lister prints no answer.
+    let mut answers = [0u8; MOST_RETIREMENTS];
     let ran = run_short(trace, &mut costs, &mut answers, timing, profile);
-    let verdict = ran.verdict;
-    let next = ran.timing;
-    let len = table::put_text(trace, &costs, out, verdict, ran.count, ran.total);
+    let len = table::put_text(trace, &costs, out, ran.verdict, ran.count, ran.total);
     Listed {
-        verdict,
+        verdict: ran.verdict,
         len,
-        timing: next,
+        timing: ran.timing,
     }
 }
 

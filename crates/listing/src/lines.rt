@@ -1,4 +1,6 @@
 // The lines that the tools print.
+#![tactic(auto, using(text::proofs::Behind::behind))]
+
 ghost use Rattle.std.specs.Prelude.{◌≡◌, ◌++◌, ◌+◌, ◌≤◌, length};
 ghost use Rattle.text.specs.Decimal.{decimal_of};
 ghost use Rattle.text.specs.Written.{newline, written, written_of};
@@ -7,6 +9,7 @@ ghost use Rattle.listing.specs.Lines.{refusal_line, header_line, retirement_line
 use refusals::Refusal;
 
 // A line of two numbers, each behind its words. A number has 20 digits at most.
+#[tactic(auto, using(text::proofs::Behind::behind, crate::proofs::Lengths::digits_most))]
 fn put_numbers(out: &mut [u8], at: usize, before: &[u8], a: u64, between: &[u8], b: u64) -> usize
     requires { at + length before.now + length between.now + 41 ≤ length out.old }
     ensures { written result out.new
@@ -17,8 +20,7 @@ fn put_numbers(out: &mut [u8], at: usize, before: &[u8], a: u64, between: &[u8],
     let q = text::put_decimal(out, p, a);
     let r = text::put_bytes(out, q, between);
     let s = text::put_decimal(out, r, b);
-    out[s] = b'\n';
-    s + 1
+    text::put_bytes(out, s, b"\n")
 }
 
 // `refused N at P`
@@ -33,18 +35,18 @@ pub fn put_refusal(out: &mut [u8], at: usize, refusal: Refusal) -> usize
 }
 
 // The index, the opcode and the clocks of a retirement.
+// Stays beside the line of `explaining`: that goes on where this ends, and a function for both would be a third.
 pub fn put_line(out: &mut [u8], at: usize, index: usize, op: u16, clocks: u32) -> usize
     // There is room: only `table` calls this, where the room is known.
     requires { at + length (retirement_line index op clocks) ≤ length out.old }
     ensures { written result out.new ≡ written_of out.old at (retirement_line index op clocks) }
 {
     let a = text::put_decimal(out, at, index as u64);
-    out[a] = b' ';
-    let b = text::put_hex4(out, a + 1, op);
-    out[b] = b' ';
-    let c = text::put_decimal(out, b + 1, clocks as u64);
-    out[c] = b'\n';
-    c + 1
+    let b = text::put_bytes(out, a, b" ");
+    let c = text::put_hex::<4>(out, b, op as u32);
+    let d = text::put_bytes(out, c, b" ");
+    let e = text::put_decimal(out, d, clocks as u64);
+    text::put_bytes(out, e, b"\n")
 }
 
 // The names of the columns.

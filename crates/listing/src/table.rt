@@ -7,7 +7,6 @@ ghost use Rattle.records.specs.Judged.{Fits};
 ghost use Rattle.listing.specs.Lines.{header_line, total_line};
 ghost use Rattle.listing.specs.Printed.{lines_of, Ready, printed};
 
-use records::Read;
 use refusals::Verdict;
 use state::Event;
 
@@ -19,36 +18,19 @@ fn put_lines(trace: &[u8], costs: &[u8], out: &mut [u8], start: usize) -> usize
         ≡ written_of out.old start (lines_of 0 costs.now (read_trace trace.now)) }
 {
     let mut place = start;
-    let mut at: usize = 0;
     let mut index: usize = 0;
-    loop {
-        let read = records::read_record(trace, at);
-        match read {
-            Read::End => {
-                return place;
-            }
-            // No record is refused: all are sound.
-            Read::Bad(_) => {
-                return place;
-            }
-            Read::Got(e, next) => {
-                at = next;
-                match e {
-                    Event::Retired(r) => {
-                        let clocks = little_endian::u32_at(costs, 4 * index);
-                        place = crate::lines::put_line(out, place, index, r.op, clocks);
-                        index += 1;
-                    }
-                    Event::Broken => {}
-                    Event::ClearedAll => {}
-                    Event::ClearedUser => {}
-                }
-            }
+    for (_, event) in records::events_of(trace) {
+        if let Event::Retired(r) = event {
+            let clocks = little_endian::u32_at(costs, 4 * index);
+            place = crate::lines::put_line(out, place, index, r.op, clocks);
+            index += 1;
         }
     }
+    place
 }
 
 // The whole text of a trace whose records are all sound.
+#[tactic(auto, using(text::proofs::Behind::behind, crate::proofs::Lengths::total_most))]
 fn put_table(trace: &[u8], costs: &[u8], out: &mut [u8], count: usize, sum: u64) -> usize
     requires fits { Fits 0 (length costs.now) (read_trace trace.now) }
     requires trace_in_bounds { length (lines_of 0 costs.now (read_trace trace.now)) + 68 ≤ length out.old }
@@ -76,7 +58,7 @@ pub fn put_text(
         ≡ written_of out.old 0 (printed verdict trace.now costs.now count sum) }
 {
     match verdict {
-        Verdict::Refused(refusal) => crate::lines::put_refusal(out, 0, refusal),
-        Verdict::Accepted => put_table(trace, costs, out, count, sum),
+        Err(refusal) => crate::lines::put_refusal(out, 0, refusal),
+        Ok(()) => put_table(trace, costs, out, count, sum),
     }
 }

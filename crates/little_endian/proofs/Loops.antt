@@ -1,14 +1,14 @@
 -- Loops over numbers in bytes, over any width: one that puts a list of numbers, and one that reads as many.
 -- Assumes nothing.
-use mathlib.Core.Path.{◌≡◌, sym, ap, ◌∙◌}
+use mathlib.Core.Path.{◌≡◌, refl, sym, ap, ◌∙◌}
 use mathlib.Core.List.{List, [], ◌∷◌, append-nil}
-use Prim.Native.Nat.{ℕ, ◌+◌, ◌*◌, ◌%◌, ◌<◌, ◌≤◌}
+use Prim.Native.Nat.{ℕ, zero, suc, ◌+◌, ◌*◌, ◌%◌, ◌<◌, ◌≤◌}
 use native.Mathlib.Nat.{add-zero, mul-le-mul_left}
 use native.Mathlib.Numerals.{add-one}
 use native.Mathlib.Omega.{arith}
-use lib.ListN.{length, get_or, set, take, take-append-drop}
-use lib.Seq.{length-take-le, take_all, sets-eq}
-use Rattle.little_endian.specs.Numbers.{bytes_of, put_at, bytes_of_each, number_at, numbers_at}
+use lib.ListN.{length, get_or, set, take, drop, take-append-drop}
+use lib.Seq.{length-take-le, take_all, drop-cons, sets-eq}
+use Rattle.little_endian.specs.Numbers.{bytes_of, put_at, bytes_of_each, number_at, numbers_at, Below}
 use Rattle.little_endian.proofs.Numbers.{put_joins}
 use Rattle.bits.proofs.Filling.{filled, filled_put, filled_all}
 use Rattle.little_endian.proofs.Each.{each_length, each_more, numbers_length, numbers_get}
@@ -55,6 +55,20 @@ put_byte s at n h i = rw (byte_of n h) (set_puts s at n i)
 pub byte_at : (s : List ℕ) (at : ℕ) → number_at 1 s at ≡ get_or s at 0
 unfolding number_at
 byte_at s at = omega arith
+
+-- numbers of one byte are the bytes that stand there, read
+pub bytes_at : (n : ℕ) (s : List ℕ) (at : ℕ) → at + n ≤ length s → numbers_at n 1 s at ≡ take n (drop at s)
+unfolding numbers_at
+bytes_at zero s at h = refl
+bytes_at (suc n) s at h =
+    let i : at < length s = omega arith in
+    rw (byte_at s at, bytes_at n s (at + 1) (omega arith), drop-cons s at 0 i, add-one)
+
+-- and put
+pub bytes_each : (ns : List ℕ) → Below 256 ns → bytes_of_each 1 ns ≡ ns
+unfolding bytes_of_each
+bytes_each [] b = refl
+bytes_each (n ∷ ns) b = rw (byte_of n (b 0), bytes_each ns (λ i. b (suc i)))
 
 -- a loop that reads n numbers of k bytes from a place on into the list ys
 module _ (n k : ℕ) (s : List ℕ) (at : ℕ) (ys : List ℕ) (long : length ys ≡ n) (i : ℕ) (xs : List ℕ) (e : xs ≡ filled i (numbers_at n k s at) ys) where

@@ -2,12 +2,13 @@
 -- Assumes nothing.
 use mathlib.Core.Path.{◌≡◌, refl, sym, ap, ◌∙◌}
 use mathlib.Core.List.{List, ◌∷◌, ◌++◌, append_assoc}
-use Prim.Native.Nat.{ℕ, zero, suc, ◌+◌, ◌*◌, ◌/◌, ◌%◌, ◌^◌, ◌<◌, ◌≤◌}
+use Prim.Native.Nat.{ℕ, zero, suc, ◌+◌, ◌-◌, ◌*◌, ◌/◌, ◌%◌, ◌^◌, ◌<◌, ◌≤◌}
 use native.Mathlib.Nat.{pow-suc, add-zero}
 use native.Mathlib.Numerals.{add-one}
 use native.Mathlib.Omega.{arith}
 use lib.ListN.{length, get_or, take, drop, length-append, length-drop, take-append-drop, get_or-append}
 use lib.Seq.{length-take-le, drop-append_seam, drop-drop, drop-cons, get_or-drop, get_or-take, take-add, take_at, drop_at}
+use borrow.Rule.Slice.PartMut.{put_mid}
 use Rattle.little_endian.specs.Numbers.{number_at, bytes_of, put_at, Below}
 
 -- the number at a place of what is left of a list
@@ -109,6 +110,13 @@ module _ (s : List ℕ) (at : ℕ) (bs : List ℕ) (room : at + length bs ≤ le
       ∙ ap (drop (length cs)) (drop_at t u (at + length bs) front)
       ∙ drop-drop (length cs) (at + length bs) s in
       rw (take_at t u (at + length bs) front, d, n) (simp append_assoc)
+
+-- a copy into s[at..at + k] puts the bytes there
+pub copy_puts : (s : List ℕ) (at k : ℕ) (bs new : List ℕ) → new ≡ bs → length bs ≡ k → put_mid at (at + k - at) s new ≡ put_at s at bs
+unfolding put_at
+copy_puts s at k bs new e h =
+    let n : at + k - at ≡ length bs = omega arith in
+    rw (e, n, drop-drop (length bs) at s) (sym (append_assoc (take at s) bs (drop (at + length bs) s)))
 
 -- a number put at a place is read there
 pub number_put : (k n : ℕ) (s : List ℕ) (at : ℕ) → n < 256 ^ k → at + k ≤ length s → number_at k (put_at s at (bytes_of k n)) at ≡ n

@@ -13,14 +13,13 @@ ghost use Rattle.little_endian.specs.Numbers.{number_at};
 pub use signed::i32_of;
 pub use storing::{put_u16, put_u32};
 
+// Stays one function for each width, as below and in `storing`: a trait is longer, and an array loses `bytes_of 2 n`.
 pub fn u16_at(s: &[u8], at: usize) -> u16
     // The bytes are there: only our crates call this, each after a test of the length.
     requires { at + 2 ≤ length s.now }
     ensures { result ≡ number_at 2 s.now at }
 {
-    let low = s[at];
-    let high = s[at + 1];
-    low as u16 + high as u16 * 256
+    u16::from_le_bytes([s[at], s[at + 1]])
 }
 
 pub fn u32_at(s: &[u8], at: usize) -> u32
@@ -28,7 +27,5 @@ pub fn u32_at(s: &[u8], at: usize) -> u32
     requires { at + 4 ≤ length s.now }
     ensures { result ≡ number_at 4 s.now at }
 {
-    let low = u16_at(s, at);
-    let high = u16_at(s, at + 2);
-    low as u32 + high as u32 * 65536
+    u32::from_le_bytes([s[at], s[at + 1], s[at + 2], s[at + 3]])
 }

@@ -3,12 +3,9 @@ ghost use Rattle.std.specs.Prelude.{◌≡◌};
 ghost use Rattle.little_endian.specs.Signed.{signed_of};
 
 // The signed number with these 32 bits.
+// Stays a function: its clause is `signed_of`, which every reading of a raw count cites, and the method's is another.
 pub fn i32_of(x: u32) -> i32
     ensures { result ≡ signed_of x }
 {
-    if x < 2147483648 {
-        x as i32
-    } else {
-        -1 - ((4294967295 - x) as i32)
-    }
+    x.cast_signed()
 }

@@ -7,8 +7,7 @@ pub fn put_u16(s: &mut [u8], at: usize, n: u16)
     requires { at + 2 ≤ length s.old }
     ensures { s.new ≡ put_at s.old at (bytes_of 2 n) }
 {
-    s[at] = (n % 256) as u8;
-    s[at + 1] = (n / 256) as u8;
+    s[at..at + 2].copy_from_slice(&n.to_le_bytes());
 }
 
 pub fn put_u32(s: &mut [u8], at: usize, n: u32)
@@ -16,6 +15,5 @@ pub fn put_u32(s: &mut [u8], at: usize, n: u32)
     requires { at + 4 ≤ length s.old }
     ensures { s.new ≡ put_at s.old at (bytes_of 4 n) }
 {
-    put_u16(s, at, (n % 65536) as u16);
-    put_u16(s, at + 2, (n / 65536) as u16);
+    s[at..at + 4].copy_from_slice(&n.to_le_bytes());
 }

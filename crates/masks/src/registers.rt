@@ -29,6 +29,7 @@ pub fn select(t: bool, yes: u16, no: u16) -> u16
 }
 
 // The register of a mode that has one: Dn in mode 0, else An.
+// Stays a bound in three contracts, here and below: a type of three bits would be made and taken apart at each call.
 fn register_of(mode: u16, reg: u16) -> u16
     requires { reg < 8 }
     ensures { result ≡ mask_of_regs (register (cond (ltb mode 1) reg (8 + reg))) }

@@ -8,7 +8,7 @@
 use profile::Profile;
 use refusals::Ran;
 use state::{Oep060Timing, Retirement};
-use std::io;
+use std::{array, io};
 use step::Chosen;
 use window::RawCount;
 
@@ -32,11 +32,7 @@ fn record(i: usize) -> Retirement {
 }
 
 fn records() -> [Retirement; 64] {
-    let mut all = [record(0); 64];
-    for i in 0..64 {
-        all[i] = record(i);
-    }
-    all
+    array::from_fn(record)
 }
 
 // The profile is the one that the Rust has.
@@ -51,10 +47,6 @@ fn run(
     batch::run_batch_of_64(all, 64, costs, answers, chosen)
 }
 
-fn print_line(rt: &impl Print, total: u64, cost: u32, answer: u8) -> io::Result<()> {
-    println!(rt; "{total} {cost} {answer}")
-}
-
 // What was stored last is printed too: else the compiler could leave the stores out.
 fn print_last(
     rt: &impl Print,
@@ -62,7 +54,7 @@ fn print_last(
     costs: &[u32; 64],
     answers: &[u8; 64],
 ) -> io::Result<()> {
-    print_line(rt, total, costs[63], answers[63])
+    println!(rt; "{total} {} {}", costs[63], answers[63])
 }
 
 // The total is that of all runs, so that another number of runs shows; 256,000 costs below 2^32 do not wrap.

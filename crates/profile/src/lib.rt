@@ -15,28 +15,30 @@ use masks::RegMasks060;
 use window::Instruction;
 
 // Chosen at start: document 000's, or document 02's.
-#[derive(Clone, Copy)]
+#[derive(Clone, Copy, PartialEq, Eq)]
 pub enum Profile {
-    Crate,
-    Mended,
+    Crate = 0,
+    Mended = 1,
 }
 
 // The profile of a number that a host passes: a number that is neither's is the crate's, the default.
-pub fn profile_at(number: u32) -> Profile
-    ensures { result ≡ profile_at number }
-{
-    if number == 1 {
-        return Profile::Mended;
+impl From<u32> for Profile {
+    ghost from_gives = { λ number profile. profile ≡ profile_at number };
+
+    fn from(number: u32) -> Profile {
+        if number == 1 {
+            Profile::Mended
+        } else {
+            Profile::Crate
+        }
     }
-    Profile::Crate
 }
 
-pub fn number_of(profile: Profile) -> u32
-    ensures { result ≡ number_of profile }
-{
-    match profile {
-        Profile::Crate => 0,
-        Profile::Mended => 1,
+impl From<Profile> for u32 {
+    ghost from_gives = { λ profile number. number ≡ number_of profile };
+
+    fn from(profile: Profile) -> u32 {
+        profile as u32
     }
 }
 
@@ -51,6 +53,7 @@ fn joined(word: Info060, masks: RegMasks060) -> Instruction
 }
 
 // The class word and the masks in one match: the group is looked at once.
+// Stays beside `classify_by_group` and `reg_masks_060`: one match for both is the faster (docs/SPEED.md).
 fn crate_060(op: u16) -> Instruction
     ensures { result ≡ crate_profile op }
 {

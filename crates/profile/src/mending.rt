@@ -3,22 +3,30 @@
 // `mended_060` has the rows that change masks, `reclassed` those that change the class word alone, both in document
 // 02's order. The words of PACK, and of CHK on the other registers, stand here, since a second caller of a group's
 // function would make of it a call in the fast step; LEA's is `lea_060`'s.
-ghost use Rattle.std.specs.Prelude.{◌≡◌};
+ghost use Rattle.std.specs.Prelude.{◌≡◌, not, ◌&&◌, eqb};
+ghost use Rattle.std.specs.Int.Bits.{bit_and};
+ghost use Rattle.bits.specs.Pattern.{matches};
+ghost use Rattle.bits.specs.Instructions.{size11};
 ghost use Rattle.bits.specs.Rows.{first, rows_after};
 ghost use Rattle.class_word.specs.Word.{info};
 ghost use Rattle.classifier.specs.Entry.{entry_word};
 ghost use Rattle.masks.specs.Registers.{mask_of_regs};
-ghost use Rattle.profile.specs.Mending.{from◌to◌, on_register, eor_of_registers, cmpm, unpk, chk_on_4};
+ghost use Rattle.profile.specs.Mending.{from◌to◌, on_register, unpk, chk_on_4};
 ghost use Rattle.profile.specs.Mending.{classed_as, both_addresses, mended_rows};
 ghost use Rattle.profile.specs.Inner.{chk_entry};
 
 use class_word::{F_DEFINES_CCR, F_READS_MEM, F_VARIABLE, Info060, OepClass};
 use window::Instruction;
 
+const EOR_OF_REGISTERS: u16 = 0xB100;
+
+const CMPM: u16 = 0xB108;
+
+// Stays a function: its clause is the definition's `from to`, which the clauses of `contains` do not name.
 fn within(op: u16, low: u16, high: u16) -> bool
     ensures { result ≡ (from low to high) op }
 {
-    low <= op && op <= high
+    (low..=high).contains(&op)
 }
 
 // The same opcode with register 0 in bits 9 to 11.
@@ -28,16 +36,11 @@ fn on_register_0(op: u16) -> u16
     op - bits::dst_reg_of(op) * 512
 }
 
-fn is_eor_of_registers(op: u16) -> bool
-    ensures { result ≡ eor_of_registers op }
+// EOR or CMPM by the kind's bits, and of a size that is not 11.
+fn is_of_kind(op: u16, kind: u16) -> bool
+    ensures { result ≡ (eqb (bit_and op 0xF138) kind && not (matches size11 op)) }
 {
-    (op & 0xF138) == 0xB100 && (op & 0x00C0) != 0x00C0
-}
-
-fn is_cmpm(op: u16) -> bool
-    ensures { result ≡ cmpm op }
-{
-    (op & 0xF138) == 0xB108 && (op & 0x00C0) != 0x00C0
+    (op & 0xF138) == kind && (op & 0x00C0) != 0x00C0
 }
 
 fn is_unpk(op: u16) -> bool
@@ -63,7 +66,7 @@ pub fn mended_060(op: u16, i: Instruction) -> Instruction
     ensures { result ≡ first (mended_rows op i) }
 {
     let word = i.word;
-    if is_eor_of_registers(op) {
+    if is_of_kind(op, EOR_OF_REGISTERS) {
         return Instruction {
             word,
             uses: i.uses,
@@ -78,7 +81,7 @@ pub fn mended_060(op: u16, i: Instruction) -> Instruction
             defs: own,
         };
     }
-    if is_cmpm(op) {
+    if is_of_kind(op, CMPM) {
         let both = both_addresses(op);
         return Instruction {
             word: Info060(word.0 | F_READS_MEM),

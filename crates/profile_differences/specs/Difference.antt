@@ -4,13 +4,10 @@
 --   three_of i              ==  the class word, the uses and the defs of an instruction, a blank before each
 --   difference_line op a b  ==  the line of an opcode that is a in the crate's profile and b in the mended one: `OPCODE
 --                               WORD USE DEF WORD USE DEF`
---   lines_of told           ==  how many lines that is: one where they differ and it was written
 use Rattle.std.specs.Prelude.{ℕ, Bool, not, ◌||◌, List, ◌++◌, eqb}
 use Rattle.text.specs.Written.{text_of, newline}
 use Rattle.text.specs.Hex.{hex_of}
 use Rattle.window.specs.declared.dispatch.Instruction.{Instruction}
-use Rattle.profile_differences.specs.declared.Told.{Told}
-use Rattle.profile_differences.specs.declared.Told.TheVariants.{Same, Different, Unwritable}
 
 abbrev pub differ_of : Instruction → Instruction → Bool
 differ_of a b = not (eqb a.word.0 b.word.0) || not (eqb a.uses b.uses) || not (eqb a.defs b.defs)
@@ -20,8 +17,3 @@ three_of i = text_of " " ++ hex_of i.word.0 ++ text_of " " ++ hex_of i.uses ++ t
 
 abbrev pub difference_line : ℕ → Instruction → Instruction → List ℕ
 difference_line op a b = hex_of op ++ three_of a ++ three_of b ++ newline
-
-abbrev pub lines_of : Told → ℕ
-lines_of Same = 0
-lines_of Different = 1
-lines_of Unwritable = 0

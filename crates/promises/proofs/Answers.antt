@@ -9,14 +9,13 @@ use native.Mathlib.Omega.{arith}
 use lib.Dec.{eqb}
 use lib.ListN.{length, take, drop}
 use lib.Seq.{take_at}
+use Rattle.std.specs.Prelude.{Option, Some, None, Ok, Err}
 use Rattle.bits.proofs.Bools.{and_left}
 use Rattle.little_endian.specs.Numbers.{put_at}
 use Rattle.class_word.specs.Word.{has, BRANCH, DBCC}
-use Rattle.branch_cache.specs.declared.slot.Predicted.{Predicted}
-use Rattle.branch_cache.specs.declared.slot.Predicted.TheVariants.{Miss, NotTaken, Taken}
 use Rattle.branch_cache.specs.Cache.{cache_predict_of}
 use Rattle.cost.specs.declared.branch.Answer.TheVariants.{NotConsulted}
-use Rattle.cost.specs.Branch.{taken_of, predicts_taken, asked_cost, branch_cost, answer_number}
+use Rattle.cost.specs.Branch.{taken_of, predicts_taken, asked_cost, branch_cost, answer_number, heard}
 use Rattle.cost.specs.Cost.{cost_of, predicted_of}
 use Rattle.cost.proofs.Led.{kind_branch}
 use Rattle.profile.specs.declared.Profile.{Profile}
@@ -24,14 +23,13 @@ use Rattle.state.specs.declared.Retirement.{Retirement}
 use Rattle.state.specs.declared.Event.{Event}
 use Rattle.state.specs.declared.Event.TheVariants.{Retired, Broken, ClearedAll, ClearedUser}
 use Rattle.state.specs.declared.Oep060Timing.{Oep060Timing}
-use Rattle.state.specs.Events.{State, heard, answer_of, after, retirements, answers, count_of}
+use Rattle.state.specs.Events.{State, answer_of, after, retirements, answers, count_of}
 use Rattle.state.specs.CrateCache.{crate_cache}
 use Rattle.state.specs.Timing.{state_of, seen_of, stepped_by}
 use Rattle.step.specs.Boards.{board_of, stepped_of}
-use Rattle.refusals.specs.declared.Verdict.{Verdict}
-use Rattle.refusals.specs.declared.Verdict.TheVariants.{Accepted, Refused}
 use Rattle.refusals.specs.Given.{is_accepted}
 use Rattle.refusals.specs.Runs.{Runs, rooms_of}
+use Rattle.refusals.specs.Verdict.{Verdict}
 use Rattle.records.specs.TraceTable.{Accepts}
 use Rattle.trace.specs.Run.{answers_of, run_trace_of}
 use Rattle.trace.proofs.Parts.{each_count}
@@ -43,43 +41,40 @@ use Rattle.promises.specs.Answers.{instruction, consulted, told, told_at, EveryA
 use Rattle.promises.proofs.Batches.{all_count}
 
 -- what is told, by whether the cache is asked and what it predicts
-abbrev told_by : Bool → Predicted → ℕ
+abbrev told_by : Bool → Option Bool → ℕ
 told_by q x = answer_number (cond q (heard x) NotConsulted)
 
-zero_by : (q : Bool) (x : Predicted) → (told_by q x ≡ 0) ↔ (q ≡ false)
+zero_by : (q : Bool) (x : Option Bool) → (told_by q x ≡ 0) ↔ (q ≡ false)
 zero_by false x = (λ h. refl, λ h. refl)
-zero_by true Miss = (λ h. absurd (omega (arith, h)), λ h. absurd (true≢false h))
-zero_by true NotTaken = (λ h. absurd (omega (arith, h)), λ h. absurd (true≢false h))
-zero_by true Taken = (λ h. absurd (omega (arith, h)), λ h. absurd (true≢false h))
+zero_by true None = (λ h. absurd (omega (arith, h)), λ h. absurd (true≢false h))
+zero_by true (Some false) = (λ h. absurd (omega (arith, h)), λ h. absurd (true≢false h))
+zero_by true (Some true) = (λ h. absurd (omega (arith, h)), λ h. absurd (true≢false h))
 
--- two predictions that are told alike are one
-one_of : (x y : Predicted) → told_by true x ≡ told_by true y → x ≡ y
-one_of Miss Miss h = refl
-one_of Miss NotTaken h = absurd (omega (arith, h))
-one_of Miss Taken h = absurd (omega (arith, h))
-one_of NotTaken Miss h = absurd (omega (arith, h))
-one_of NotTaken NotTaken h = refl
-one_of NotTaken Taken h = absurd (omega (arith, h))
-one_of Taken Miss h = absurd (omega (arith, h))
-one_of Taken NotTaken h = absurd (omega (arith, h))
-one_of Taken Taken h = refl
+-- a prediction is known by what is told of it
+abbrev predicted : ℕ → Option Bool
+predicted n = cond (eqb n 1) None (Some (eqb n 3))
 
-asked_is : (dbcc taken opened : Bool) (x : Predicted) → branch_cost dbcc taken opened (heard x) ≡ asked_cost (predicts_taken (heard x)) taken opened
-asked_is dbcc taken opened Miss = refl
-asked_is dbcc taken opened NotTaken = refl
-asked_is dbcc taken opened Taken = refl
+known : (x : Option Bool) → predicted (told_by true x) ≡ x
+known None = refl
+known (Some false) = refl
+known (Some true) = refl
 
-seven_by : (x : Predicted) (taken opened : Bool) → (asked_cost (predicts_taken (heard x)) taken opened ≡ 7) ↔ (eqb (told_by true x) 3 ≡ not taken)
-seven_by Miss true opened = (λ h. refl, λ h. refl)
-seven_by Miss false opened = (λ h. absurd (omega (arith, h)), λ h. absurd (true≢false (sym h)))
-seven_by NotTaken true opened = (λ h. refl, λ h. refl)
-seven_by NotTaken false opened = (λ h. absurd (omega (arith, h)), λ h. absurd (true≢false (sym h)))
-seven_by Taken true true = (λ h. absurd (omega (arith, h)), λ h. absurd (true≢false h))
-seven_by Taken true false = (λ h. absurd (omega (arith, h)), λ h. absurd (true≢false h))
-seven_by Taken false opened = (λ h. refl, λ h. refl)
+asked_is : (dbcc taken opened : Bool) (x : Option Bool) → branch_cost dbcc taken opened (heard x) ≡ asked_cost (predicts_taken (heard x)) taken opened
+asked_is dbcc taken opened None = refl
+asked_is dbcc taken opened (Some false) = refl
+asked_is dbcc taken opened (Some true) = refl
+
+seven_by : (x : Option Bool) (taken opened : Bool) → (asked_cost (predicts_taken (heard x)) taken opened ≡ 7) ↔ (eqb (told_by true x) 3 ≡ not taken)
+seven_by None true opened = (λ h. refl, λ h. refl)
+seven_by None false opened = (λ h. absurd (omega (arith, h)), λ h. absurd (true≢false (sym h)))
+seven_by (Some false) true opened = (λ h. refl, λ h. refl)
+seven_by (Some false) false opened = (λ h. absurd (omega (arith, h)), λ h. absurd (true≢false (sym h)))
+seven_by (Some true) true true = (λ h. absurd (omega (arith, h)), λ h. absurd (true≢false h))
+seven_by (Some true) true false = (λ h. absurd (omega (arith, h)), λ h. absurd (true≢false h))
+seven_by (Some true) false opened = (λ h. refl, λ h. refl)
 
 module _ (P : Profile) (t : Oep060Timing) (r : Retirement) where
-  abbrev said : Predicted
+  abbrev said : Option Bool
   said = cache_predict_of t.cache r.controls.ppc
 
   told_is : told P t r ≡ told_by (consulted P r) said
@@ -97,8 +92,8 @@ module _ (P : Profile) (t : Oep060Timing) (r : Retirement) where
     asked = told_is ∙ ap (λ (b : Bool). told_by b said) q
 
     -- the number of each prediction, and no other's
-    so : (x : Predicted) → (told P t r ≡ told_by true x) ↔ (said ≡ x)
-    so x = (λ h. one_of said x (sym asked ∙ h), λ h. asked ∙ ap (told_by true) h)
+    so : (x : Option Bool) → (told P t r ≡ told_by true x) ↔ (said ≡ x)
+    so x = (λ h. sym (known said) ∙ ap predicted (sym asked ∙ h) ∙ known x, λ h. asked ∙ ap (told_by true) h)
 
     cost_is : (stepped_of P t r).cost.0 ≡ asked_cost (predicts_taken (heard said)) (taken_of (instruction P r) r.controls) t.window.opened
     unfolding stepped_by answer_of cost_of
@@ -129,10 +124,10 @@ trace_answers_lem P trace lent t es ok =
 module _ (P : Profile) (rs : List Retirement) (lent : Runs) (t : Oep060Timing) where
   batch_by : (v : Verdict) → is_accepted (batch_outcome_by P v rs lent t).ran.verdict ≡ true
       → take (length rs) (batch_outcome_by P v rs lent t).lent.answers ≡ map (told_at P) (meetings P (state_of (seen_of t)) (events_of rs))
-  batch_by Accepted h =
+  batch_by (Ok done) h =
       take_at (answers_of P t (events_of rs)) (drop (length rs) lent.answers) (length rs) (each_count (board_of P) predicted_of (state_of (seen_of t)) (events_of rs) ∙ all_count rs)
       ∙ step_by_step_lem P (state_of (seen_of t)) (events_of rs)
-  batch_by (Refused refusal) h = absurd (true≢false (sym h))
+  batch_by (Err refusal) h = absurd (true≢false (sym h))
 
   batch_answers_lem : is_accepted (batch_of P rs lent t).ran.verdict ≡ true → take (length rs) (batch_of P rs lent t).lent.answers ≡ map (told_at P) (meetings P (state_of (seen_of t)) (events_of rs))
   unfolding batch_of
@@ -143,9 +138,9 @@ every_answer P =
     record {
       non_branch = non_branch_lem P;
       not_consulted = not_consulted_lem P;
-      miss = λ t r q. so P t r q Miss;
-      not_taken = λ t r q. so P t r q NotTaken;
-      taken = λ t r q. so P t r q Taken;
+      miss = λ t r q. so P t r q None;
+      not_taken = λ t r q. so P t r q (Some false);
+      taken = λ t r q. so P t r q (Some true);
       seven = seven_so P;
       trace_answers = trace_answers_lem P;
       batch_answers = batch_answers_lem P;

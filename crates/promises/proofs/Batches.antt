@@ -14,8 +14,8 @@ use Rattle.cost.specs.Cost.{cost_of, predicted_of}
 use Rattle.state.specs.Events.{count_of}
 use Rattle.step.specs.Boards.{board_of}
 use Rattle.state.specs.Timing.{state_of, seen_of}
-use Rattle.refusals.specs.declared.Verdict.TheVariants.{Accepted}
 use Rattle.refusals.specs.Runs.{Runs, rooms_of}
+use Rattle.refusals.specs.Verdict.{accepted}
 use Rattle.little_endian.specs.Numbers.{put_at}
 use Rattle.trace.specs.Run.{cost_bytes, costs_of, answers_of, next_of, run_trace_of}
 use Rattle.records.specs.TraceTable.{Accepts}
@@ -40,7 +40,7 @@ module _ (P : Profile) (trace : List ℕ) (lent ps : Runs) (t : Oep060Timing) (r
   as_trace_lem : (batch_of P rs ps t).ran ≡ (run_trace_of P trace lent t).ran
   as_trace_lem =
       rw (batch_accepted, run_accepted P trace lent t ok)
-      (ap (λ (n : ℕ). record { verdict = Accepted; count = n; total = (batch_accepted_of P rs ps t).ran.total; timing = next_of P t (events_of rs) }) (sym (all_count rs)))
+      (ap (λ (n : ℕ). record { verdict = accepted; count = n; total = (batch_accepted_of P rs ps t).ran.total; timing = next_of P t (events_of rs) }) (sym (all_count rs)))
 
   as_trace_costs_lem : (run_trace_of P trace lent t).lent.costs ≡ put_at lent.costs 0 (cost_bytes (take (length rs) (batch_of P rs ps t).lent.costs))
   as_trace_costs_lem =

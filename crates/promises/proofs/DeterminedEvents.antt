@@ -36,10 +36,10 @@ use Rattle.branch_cache.proofs.BranchCache060.predict.Reads as branch-cache-bran
 use Rattle.branch_cache.proofs.BranchCache060.update.Reads as branch-cache-branchcache060-update
 use Rattle.branch_cache.proofs.update_at.Reads as branch-cache-update-at
 use Rattle.cost.proofs.branch_cost_060.Reads as cost-branch-cost-060
-use Rattle.cost.proofs.answer_number.Reads as cost-answer-number
-use Rattle.cost.proofs.answer_at.Reads as cost-answer-at
+use Rattle.cost.proofs.branch.U8FromAnswer.from.Reads as cost-u8-from-answer
+use Rattle.cost.proofs.branch.AnswerFromU8.from.Reads as cost-answer-from-u8
+use Rattle.cost.proofs.branch.AnswerFromOptionBool.from.Reads as cost-answer-from-option-bool
 use Rattle.cost.proofs.as_head.Reads as cost-as-head
-use Rattle.state.proofs.answer_of.Reads as state-answer-of
 use Rattle.state.proofs.consulted.Reads as state-consulted
 use Rattle.state.proofs.packed_below.Reads as state-packed-below
 
@@ -50,17 +50,17 @@ module _ (κs : Lifetimes.Lfts 0) where
   pub state_packed_below_determined : Determined result (state-packed-below.Post κs)
   state_packed_below_determined i r r' x x' p q = p ∙ sym q
 
-  pub state_answer_of_determined : Determined result (state-answer-of.Post κs)
-  state_answer_of_determined i r r' x x' p q = p ∙ sym q
-
   pub cost_as_head_determined : Determined result (cost-as-head.Post κs)
   cost_as_head_determined i r r' x x' p q = p ∙ sym q
 
-  pub cost_answer_number_determined : Determined result (cost-answer-number.Post κs)
-  cost_answer_number_determined i r r' x x' p q = p ∙ sym q
+  pub cost_u8_from_answer_determined : Determined result (cost-u8-from-answer.Post κs)
+  cost_u8_from_answer_determined i r r' x x' p q = p ∙ sym q
 
-  pub cost_answer_at_determined : Determined result (cost-answer-at.Post κs)
-  cost_answer_at_determined i r r' x x' p q = p ∙ sym q
+  pub cost_answer_from_u8_determined : Determined result (cost-answer-from-u8.Post κs)
+  cost_answer_from_u8_determined i r r' x x' p q = p ∙ sym q
+
+  pub cost_answer_from_option_bool_determined : Determined result (cost-answer-from-option-bool.Post κs)
+  cost_answer_from_option_bool_determined i r r' x x' p q = p ∙ sym q
 
   pub cost_branch_cost_060_determined : Determined result (cost-branch-cost-060.Post κs)
   cost_branch_cost_060_determined i r r' x x' p q = p ∙ sym q

@@ -22,8 +22,8 @@ use Rattle.masks.proofs.dyadic_masks.Reads as masks-dyadic-masks
 use Rattle.masks.proofs.quick_masks.Reads as masks-quick-masks
 use Rattle.masks.proofs.shift_masks.Reads as masks-shift-masks
 use Rattle.masks.proofs.group4_masks.Reads as masks-group4-masks
-use Rattle.profile.proofs.profile_at.Reads as profile-profile-at
-use Rattle.profile.proofs.number_of.Reads as profile-number-of
+use Rattle.profile.proofs.ProfileFromU32.from.Reads as profile-profile-from-u32
+use Rattle.profile.proofs.U32FromProfile.from.Reads as profile-u32-from-profile
 use Rattle.profile.proofs.read_in.Reads as profile-read-in
 use Rattle.profile.proofs.instruction_060.Reads as profile-instruction-060
 
@@ -85,11 +85,11 @@ module _ (κs : Lifetimes.Lfts 0) where
   pub masks_group4_masks_determined : Determined result (masks-group4-masks.Post κs)
   masks_group4_masks_determined i r r' x x' p q = p ∙ sym q
 
-  pub profile_profile_at_determined : Determined result (profile-profile-at.Post κs)
-  profile_profile_at_determined i r r' x x' p q = p ∙ sym q
+  pub profile_profile_from_u32_determined : Determined result (profile-profile-from-u32.Post κs)
+  profile_profile_from_u32_determined i r r' x x' p q = p ∙ sym q
 
-  pub profile_number_of_determined : Determined result (profile-number-of.Post κs)
-  profile_number_of_determined i r r' x x' p q = p ∙ sym q
+  pub profile_u32_from_profile_determined : Determined result (profile-u32-from-profile.Post κs)
+  profile_u32_from_profile_determined i r r' x x' p q = p ∙ sym q
 
   pub profile_read_in_determined : Determined result (profile-read-in.Post κs)
   profile_read_in_determined i r r' x x' p q = p ∙ sym q

@@ -8,13 +8,12 @@ use contract.Lifetimes
 use Rattle.class_word.specs.Word.{info}
 use Rattle.window.specs.declared.dispatch.Instruction.{Instruction}
 use Rattle.in_place.specs.Lent.{Lent, lent}
-use Rattle.in_place.specs.Retire.{Paid, paid, paid_by}
+use Rattle.in_place.specs.Retire.{Paid, paid_by}
 use Rattle.profile.specs.declared.Profile.TheVariants.{Crate}
 use Rattle.promises.specs.Determined.{Determined, result}
 use Rattle.in_place.proofs.window_at.Reads as in-place-window-at
 use Rattle.in_place.proofs.put_window.Reads as in-place-put-window
 use Rattle.in_place.proofs.timing_at.Reads as in-place-timing-at
-use Rattle.state.proofs.number.Reads as state-number
 use Rattle.state.proofs.controls_of.Reads as state-controls-of
 use Rattle.state.proofs.retirement_of.Reads as state-retirement-of
 use Rattle.state.proofs.control_flags.Reads as state-control-flags
@@ -23,7 +22,8 @@ use Rattle.in_place.proofs.retire_in_place.Reads as in-place-retire-in-place
 use Rattle.in_place.proofs.retire_branch.Reads as in-place-retire-branch
 use Rattle.in_place.proofs.retire_flow.Reads as in-place-retire-flow
 use Rattle.in_place.proofs.retire_neither.Reads as in-place-retire-neither
-use Rattle.in_place.proofs.decoded_060.Reads as in-place-decoded-060
+use Rattle.in_place.proofs.decoded.Decoded.new.Reads as in-place-decoded-new
+use Rattle.in_place.proofs.decoded.Decoded.look_up.Reads as in-place-decoded-look-up
 use Rattle.in_place.proofs.shut_window.Reads as in-place-shut-window
 use Rattle.in_place.proofs.clear_all_at.Reads as in-place-clear-all-at
 use Rattle.in_place.proofs.clear_user_at.Reads as in-place-clear-user-at
@@ -39,6 +39,13 @@ one_number n m e =
     omega (arith, low, high)
 
 module _ (κs : Lifetimes.Lfts 0) where
+  -- a table of decoded opcodes is its profile and its entries
+  pub in_place_decoded_new_profile_determined : Determined (λ r x. r.profile) (in-place-decoded-new.Post κs)
+  in_place_decoded_new_profile_determined i r r' x x' p q = p.0 ∙ sym q.0
+
+  pub in_place_decoded_new_table_determined : Determined (λ r x. r.entries) (in-place-decoded-new.Post κs)
+  in_place_decoded_new_table_determined i r r' x x' p q = p.1 ∙ sym q.1
+
   pub in_place_clocks_in_determined : Determined result (in-place-clocks-in.Post κs)
   in_place_clocks_in_determined i r r' x x' p q = p ∙ sym q
 
@@ -50,9 +57,6 @@ module _ (κs : Lifetimes.Lfts 0) where
 
   pub in_place_timing_at_determined : Determined result (in-place-timing-at.Post κs)
   in_place_timing_at_determined i r r' x x' p q = p ∙ sym q
-
-  pub state_number_determined : Determined result (state-number.Post κs)
-  state_number_determined i r r' x x' p q = p ∙ sym q
 
   pub state_controls_of_determined : Determined result (state-controls-of.Post κs)
   state_controls_of_determined i r r' x x' p q = p ∙ sym q
@@ -88,14 +92,17 @@ module _ (κs : Lifetimes.Lfts 1) where
   in_place_retire_neither_number_determined i r r' x x' p q = one_number r r' (p [] [] ∙ sym (q [] []))
 
 module _ (κs : Lifetimes.Lfts 4) where
-  pub in_place_decoded_060_determined : Determined result (in-place-decoded-060.Post κs)
-  in_place_decoded_060_determined i r r' x x' p q = p.0 ∙ sym q.0
+  pub in_place_decoded_look_up_determined : Determined result (in-place-decoded-look-up.Post κs)
+  in_place_decoded_look_up_determined i r r' x x' p q = p.0 ∙ sym q.0
 
-  pub in_place_decoded_060_lent_determined : Determined (λ r x. lent x.0.now x.1.0.now x.1.1.0.now) (in-place-decoded-060.Post κs)
-  in_place_decoded_060_lent_determined i r r' x x' p q = p.1.0 ∙ sym q.1.0
+  pub in_place_decoded_look_up_lent_determined : Determined (λ r x. lent x.1.0.now x.1.1.0.now x.1.1.1.0.now) (in-place-decoded-look-up.Post κs)
+  in_place_decoded_look_up_lent_determined i r r' x x' p q = p.1.0 ∙ sym q.1.0
 
-  pub in_place_decoded_060_table_determined : Determined (λ r x. x.1.1.1.0.now) (in-place-decoded-060.Post κs)
-  in_place_decoded_060_table_determined i r r' x x' p q = p.1.1.0 ∙ sym q.1.1.0
+  pub in_place_decoded_look_up_profile_determined : Determined (λ r x. x.0.now.profile) (in-place-decoded-look-up.Post κs)
+  in_place_decoded_look_up_profile_determined i r r' x x' p q = p.1.1.0 ∙ sym q.1.1.0
+
+  pub in_place_decoded_look_up_table_determined : Determined (λ r x. x.0.now.entries) (in-place-decoded-look-up.Post κs)
+  in_place_decoded_look_up_table_determined i r r' x x' p q = p.1.1.1 ∙ sym q.1.1.1
 
 module _ (κs : Lifetimes.Lfts 3) where
   pub in_place_retire_branch_determined : Determined (λ r x. paid_by r (lent x.0.now x.1.0.now x.1.1.0.now)) (in-place-retire-branch.Post κs)
@@ -104,11 +111,11 @@ module _ (κs : Lifetimes.Lfts 3) where
   pub in_place_retire_branch_number_determined : Determined result (in-place-retire-branch.Post κs)
   in_place_retire_branch_number_determined i r r' x x' p q = one_number r r' (p 0 ∙ sym (q 0))
 
-  pub in_place_event_at_determined : Determined (λ r x. paid r.cost r.answer (lent x.0.now x.1.0.now x.1.1.0.now)) (in-place-event-at.Post κs)
+  pub in_place_event_at_determined : Determined result (in-place-event-at.Post κs)
   in_place_event_at_determined i r r' x x' p q = p.0 ∙ sym q.0
 
-  pub in_place_event_at_count_determined : Determined (λ r x. r.count) (in-place-event-at.Post κs)
-  in_place_event_at_count_determined i r r' x x' p q = p.1 ∙ sym q.1
+  pub in_place_event_at_lent_determined : Determined (λ r x. lent x.0.now x.1.0.now x.1.1.0.now) (in-place-event-at.Post κs)
+  in_place_event_at_lent_determined i r r' x x' p q = p.1 ∙ sym q.1
 
   pub in_place_retire_at_determined : Determined (λ r x. paid_by r (lent x.0.now x.1.0.now x.1.1.0.now)) (in-place-retire-at.Post κs)
   in_place_retire_at_determined i r r' x x' p q = p ∙ sym q

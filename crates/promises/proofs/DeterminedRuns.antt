@@ -6,14 +6,16 @@ use Prim.Native.Nat.{ℕ}
 use native.Mathlib.Omega.{arith}
 use lib.ListN.{length}
 use contract.Lifetimes
+use Rattle.std.specs.Prelude.{Option, Some, None}
+use mir.Syntax.{w64}
+use mir.Val.{Fits}
 use Rattle.refusals.specs.Runs.{runs}
 use Rattle.trace.specs.Run.{trace_outcome}
 use Rattle.image.specs.Entries.{image_outcome}
 use Rattle.text.specs.Written.{written}
 use Rattle.listing.specs.Listing.{listing_outcome}
+use Rattle.profile.specs.declared.Profile.{Profile}
 use Rattle.profile.specs.declared.Profile.TheVariants.{Crate, Mended}
-use Rattle.input.specs.declared.words.Word.{Word}
-use Rattle.input.specs.declared.words.Word.TheVariants.{Named, Unknown}
 use Rattle.input.specs.Words.{Names, CRATE, MENDED}
 use Rattle.promises.specs.Determined.{Determined, result}
 use Rattle.little_endian.proofs.u16_at.Reads as little-endian-u16-at
@@ -21,7 +23,9 @@ use Rattle.little_endian.proofs.u32_at.Reads as little-endian-u32-at
 use Rattle.little_endian.proofs.i32_of.Reads as little-endian-i32-of
 use Rattle.little_endian.proofs.put_u16.Reads as little-endian-put-u16
 use Rattle.little_endian.proofs.put_u32.Reads as little-endian-put-u32
+use Rattle.records.proofs.kinds.KindTryFromU16.try_from.Reads as records-kind-try-from-u16
 use Rattle.records.proofs.read_record.Reads as records-read-record
+use Rattle.records.proofs.events_of.Reads as records-events-of
 use Rattle.records.proofs.whole_at.Reads as records-whole-at
 use Rattle.records.proofs.retirement_at.Reads as records-retirement-at
 use Rattle.records.proofs.check_all.Reads as records-check-all
@@ -32,9 +36,7 @@ use Rattle.image.proofs.image_write.Reads as image-image-write
 use Rattle.image.proofs.image_read.Reads as image-image-read
 use Rattle.input.proofs.profile_named.Reads as input-profile-named
 use Rattle.text.proofs.put_bytes.Reads as text-put-bytes
-use Rattle.text.proofs.put_hex4.Reads as text-put-hex4
-use Rattle.text.proofs.put_hex2.Reads as text-put-hex2
-use Rattle.text.proofs.put_hex8.Reads as text-put-hex8
+use Rattle.text.proofs.put_hex.Reads as text-put-hex
 use Rattle.text.proofs.put_decimal.Reads as text-put-decimal
 use Rattle.text.proofs.put_signed.Reads as text-put-signed
 use Rattle.listing.proofs.put_refusal.Reads as listing-put-refusal
@@ -51,6 +53,9 @@ module _ (κs : Lifetimes.Lfts 0) where
   pub batch_batch_verdict_determined : Determined result (batch-batch-verdict.Post κs)
   batch_batch_verdict_determined i r r' x x' p q = p ∙ sym q
 
+  pub records_kind_try_from_u16_determined : Determined result (records-kind-try-from-u16.Post κs)
+  records_kind_try_from_u16_determined i r r' x x' p q = p ∙ sym q
+
   pub little_endian_i32_of_determined : Determined result (little-endian-i32-of.Post κs)
   little_endian_i32_of_determined i r r' x x' p q = p ∙ sym q
 
@@ -58,16 +63,16 @@ module _ (κs : Lifetimes.Lfts 0) where
 words_differ : CRATE ≡ MENDED → ⊥
 words_differ e = absurd (omega (arith, ap length e))
 
-names_one : (word : List ℕ) (w w' : Word) → Names word w → Names word w' → w ≡ w'
-names_one word (Named Crate) (Named Crate) p q = refl
-names_one word (Named Mended) (Named Mended) p q = refl
-names_one word Unknown Unknown p q = refl
-names_one word (Named Crate) (Named Mended) p q = absurd (words_differ (sym p ∙ q))
-names_one word (Named Mended) (Named Crate) p q = absurd (words_differ (sym q ∙ p))
-names_one word (Named Crate) Unknown p q = absurd (q.0 p)
-names_one word (Named Mended) Unknown p q = absurd (q.1 p)
-names_one word Unknown (Named Crate) p q = absurd (p.0 q)
-names_one word Unknown (Named Mended) p q = absurd (p.1 q)
+names_one : (word : List ℕ) (w w' : Option Profile) → Names word w → Names word w' → w ≡ w'
+names_one word (Some Crate) (Some Crate) p q = refl
+names_one word (Some Mended) (Some Mended) p q = refl
+names_one word None None p q = refl
+names_one word (Some Crate) (Some Mended) p q = absurd (words_differ (sym p ∙ q))
+names_one word (Some Mended) (Some Crate) p q = absurd (words_differ (sym q ∙ p))
+names_one word (Some Crate) None p q = absurd (q.0 p)
+names_one word (Some Mended) None p q = absurd (q.1 p)
+names_one word None (Some Crate) p q = absurd (p.0 q)
+names_one word None (Some Mended) p q = absurd (p.1 q)
 
 module _ (κs : Lifetimes.Lfts 1) where
   pub input_profile_named_determined : Determined result (input-profile-named.Post κs)
@@ -94,6 +99,13 @@ module _ (κs : Lifetimes.Lfts 1) where
   pub records_read_record_determined : Determined result (records-read-record.Post κs)
   records_read_record_determined i r r' x x' p q = p ∙ sym q
 
+  -- a walk is its trace and its place
+  pub records_events_of_trace_determined : Determined (λ r x. r.trace.now) (records-events-of.Post κs)
+  records_events_of_trace_determined i r r' x x' p q = p.0 ∙ sym q.0
+
+  pub records_events_of_at_determined : Determined (λ r x. r.at) (records-events-of.Post κs)
+  records_events_of_at_determined i r r' x x' p q = p.1 ∙ sym q.1
+
   pub records_check_all_determined : Determined result (records-check-all.Post κs)
   records_check_all_determined i r r' x x' p q = p ∙ sym q
 
@@ -116,17 +128,13 @@ module _ (κs : Lifetimes.Lfts 3) where
   pub trace_run_trace_determined : Determined (λ r x. trace_outcome r (runs x.1.0.now x.1.1.0.now)) (trace-run-trace.Post κs)
   trace_run_trace_determined i r r' x x' p q = p ∙ sym q
 
+-- of any number of digits
+module _ (DIGITS : ℕ) (fits : Fits w64 DIGITS) (κs : Lifetimes.Lfts 2) where
+  pub text_put_hex_determined : Determined (λ r x. written r x.0.now) (text-put-hex.Post DIGITS fits κs)
+  text_put_hex_determined i r r' x x' p q = p ∙ sym q
+
 -- what the tools print
 module _ (κs : Lifetimes.Lfts 1) where
-  pub text_put_hex4_determined : Determined (λ r x. written r x.0.now) (text-put-hex4.Post κs)
-  text_put_hex4_determined i r r' x x' p q = p ∙ sym q
-
-  pub text_put_hex2_determined : Determined (λ r x. written r x.0.now) (text-put-hex2.Post κs)
-  text_put_hex2_determined i r r' x x' p q = p ∙ sym q
-
-  pub text_put_hex8_determined : Determined (λ r x. written r x.0.now) (text-put-hex8.Post κs)
-  text_put_hex8_determined i r r' x x' p q = p ∙ sym q
-
   pub text_put_decimal_determined : Determined (λ r x. written r x.0.now) (text-put-decimal.Post κs)
   text_put_decimal_determined i r r' x x' p q = p ∙ sym q
 

@@ -9,14 +9,18 @@ use Rattle.reasons.specs.Explain.{explained_at}
 use Rattle.reasons.specs.ExplainRun.{explain_outcome}
 use Rattle.promises.specs.Determined.{Determined, result}
 use Rattle.text.specs.Written.{written}
-use Rattle.reasons.proofs.reason_number.Reads as reasons-reason-number
+use Rattle.reasons.proofs.reason.U8FromReason.from.Reads as reasons-u8-from-reason
+use Rattle.reasons.proofs.reason.ReasonFromRule.from.Reads as reasons-reason-from-rule
 use Rattle.reasons.proofs.explain_in_place.Reads as reasons-explain-in-place
 use Rattle.reasons.proofs.explain_trace.Reads as reasons-explain-trace
 use Rattle.explaining.proofs.why_text.Reads as explaining-why-text
 
 module _ (κs : Lifetimes.Lfts 0) where
-  pub reasons_reason_number_determined : Determined result (reasons-reason-number.Post κs)
-  reasons_reason_number_determined i r r' x x' p q = p ∙ sym q
+  pub reasons_u8_from_reason_determined : Determined result (reasons-u8-from-reason.Post κs)
+  reasons_u8_from_reason_determined i r r' x x' p q = p ∙ sym q
+
+  pub reasons_reason_from_rule_determined : Determined result (reasons-reason-from-rule.Post κs)
+  reasons_reason_from_rule_determined i r r' x x' p q = p ∙ sym q
 
 module _ (κs : Lifetimes.Lfts 2) where
   pub explaining_why_text_determined : Determined (λ r x. written r x.1.0.now) (explaining-why-text.Post κs)

@@ -2,6 +2,8 @@
 -- Assumes nothing.
 use mathlib.Core.Path.{◌≡◌, refl, sym, ap, ◌∙◌}
 use contract.Lifetimes
+use mir.Syntax.{w64}
+use mir.Val.{Fits}
 use mathlib.Core.Bool.{cond}
 use Prim.Native.Nat.{ℕ}
 use lib.Dec.{eqb}
@@ -13,7 +15,7 @@ use Rattle.bits.proofs.mode_of.Reads as bits-mode-of
 use Rattle.bits.proofs.reg_of.Reads as bits-reg-of
 use Rattle.bits.proofs.dst_mode_of.Reads as bits-dst-mode-of
 use Rattle.bits.proofs.dst_reg_of.Reads as bits-dst-reg-of
-use Rattle.class_word.proofs.class_number.Reads as class-word-class-number
+use Rattle.class_word.proofs.U16FromOepClass.from.Reads as class-word-u16-from-oep-class
 use Rattle.class_word.proofs.Info060.new.Reads as class-word-info060-new
 use Rattle.class_word.proofs.Info060.class.Reads as class-word-info060-class
 use Rattle.class_word.proofs.Info060.cycles.Reads as class-word-info060-cycles
@@ -25,7 +27,7 @@ use Rattle.classifier.proofs.info_060.Reads as classifier-info-060
 use Rattle.classifier.proofs.rule_of.Reads as classifier-rule-of
 use Rattle.classifier.proofs.finish.Reads as classifier-finish
 use Rattle.masks.proofs.reg_masks_060.Reads as masks-reg-masks-060
-use Rattle.text.proofs.hex4.Reads as text-hex4
+use Rattle.text.proofs.hex_digits.Reads as text-hex-digits
 
 -- a class is known by its number
 class_at : ℕ → OepClass
@@ -51,8 +53,8 @@ module _ (κs : Lifetimes.Lfts 0) where
   pub bits_dst_reg_of_determined : Determined result (bits-dst-reg-of.Post κs)
   bits_dst_reg_of_determined i r r' x x' p q = p ∙ sym q
 
-  pub class_word_class_number_determined : Determined result (class-word-class-number.Post κs)
-  class_word_class_number_determined i r r' x x' p q = p ∙ sym q
+  pub class_word_u16_from_oep_class_determined : Determined result (class-word-u16-from-oep-class.Post κs)
+  class_word_u16_from_oep_class_determined i r r' x x' p q = p ∙ sym q
 
   pub class_word_info060_new_determined : Determined result (class-word-info060-new.Post κs)
   class_word_info060_new_determined i r r' x x' p q = p ∙ sym q
@@ -87,5 +89,7 @@ module _ (κs : Lifetimes.Lfts 0) where
   pub masks_reg_masks_060_determined : Determined result (masks-reg-masks-060.Post κs)
   masks_reg_masks_060_determined i r r' x x' p q = p ∙ sym q
 
-  pub text_hex4_determined : Determined result (text-hex4.Post κs)
-  text_hex4_determined i r r' x x' p q = p ∙ sym q
+-- of any number of digits
+module _ (DIGITS : ℕ) (fits : Fits w64 DIGITS) (κs : Lifetimes.Lfts 1) where
+  pub text_hex_digits_determined : Determined result (text-hex-digits.Post DIGITS fits κs)
+  text_hex_digits_determined i r r' x x' p q = p ∙ sym q

@@ -2,26 +2,26 @@
 -- Assumes nothing.
 use mathlib.Core.Path.{◌≡◌, refl}
 use mathlib.Core.Bool.{Bool, true, false, cond, ◌&&◌}
-use mathlib.Core.Option.{Option, none, some}
+use Rattle.std.specs.Prelude.{Option, Some, None}
 use lib.Dec.{leb}
 use Rattle.class_word.specs.Word.{has, BRANCH}
-use Rattle.branch_cache.specs.declared.slot.Predicted.TheVariants as P
 use Rattle.branch_cache.specs.Slot.{counter_of, valid_of, predict_of}
 use Rattle.branch_cache.specs.Cache.{cache_predict_of}
+use Rattle.cost.specs.Branch.{heard}
 use Rattle.cost.specs.declared.branch.Answer.{Answer}
 use Rattle.cost.specs.declared.branch.Answer.TheVariants.{NotConsulted}
 use Rattle.profile.specs.declared.Profile.{Profile}
 use Rattle.profile.specs.Profile.{profile_of}
 use Rattle.state.specs.declared.Oep060Timing.{Oep060Timing}
 use Rattle.state.specs.declared.Retirement.{Retirement}
-use Rattle.state.specs.Events.{heard, answer_of}
+use Rattle.state.specs.Events.{answer_of}
 use Rattle.state.specs.Timing.{stepped_by}
 use Rattle.step.specs.Boards.{stepped_of}
 use Rattle.promises.specs.Factors.{BranchFactors, Factors, branch_factors_of, factors_of}
 
 abbrev pub answer_from : Bool → Option BranchFactors → Answer
-answer_from asked none = NotConsulted
-answer_from asked (some b) = cond asked (heard (cond (valid_of b.byte && b.tag_equal) (cond (leb 2 (counter_of b.byte)) P.Taken P.NotTaken) P.Miss)) NotConsulted
+answer_from asked None = NotConsulted
+answer_from asked (Some b) = cond asked (heard (cond (valid_of b.byte && b.tag_equal) (Some (leb 2 (counter_of b.byte))) None)) NotConsulted
 
 abbrev pub answer_on : Factors → Answer
 answer_on f = answer_from (f.ebc && f.cached) f.branch
@@ -29,7 +29,7 @@ answer_on f = answer_from (f.ebc && f.cached) f.branch
 module _ (P : Profile) (t : Oep060Timing) (r : Retirement) where
   answer_by : (b : Bool)
       → cond (b && (r.controls.ebc && r.controls.cached)) (heard (cache_predict_of t.cache r.controls.ppc)) NotConsulted
-      ≡ answer_from (r.controls.ebc && r.controls.cached) (cond b (some (branch_factors_of t.cache r.controls)) none)
+      ≡ answer_from (r.controls.ebc && r.controls.cached) (cond b (Some (branch_factors_of t.cache r.controls)) None)
   unfolding predict_of
   answer_by true = refl
   answer_by false = refl

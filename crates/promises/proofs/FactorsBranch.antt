@@ -3,7 +3,7 @@
 use Prim.Native.Nat.{ℕ}
 use mathlib.Core.Path.{◌≡◌, refl, sym, ap, subst, ◌∙◌}
 use mathlib.Core.Bool.{Bool, true, false, true≢false, cond}
-use mathlib.Core.Option.{none, some}
+use Rattle.std.specs.Prelude.{Some, None}
 use Rattle.class_word.specs.Word.{clocks, has, BRANCH}
 use Rattle.window.specs.declared.dispatch.Instruction.{Instruction}
 use Rattle.window.specs.Windows.{unnamed}
@@ -19,15 +19,15 @@ use Rattle.promises.proofs.FactorsCache.{byte_from, changed}
 use Rattle.promises.proofs.FactorsStep.{cost_on, window_on, byte_on, step_cost_lem, step_window, step_cache, change_by, whole_by, slots_by}
 
 module _ (i : Instruction) (f : Factors) (x : BranchFactors) where
-  branch_cost_lem : (b : Bool) → b ≡ true → cost_from i (coarse f) (cond b (some x) none) ≡ cost_from i (of_branch f) (cond b (some x) none)
+  branch_cost_lem : (b : Bool) → b ≡ true → cost_from i (coarse f) (cond b (Some x) None) ≡ cost_from i (of_branch f) (cond b (Some x) None)
   branch_cost_lem true e = refl
   branch_cost_lem false e = absurd (true≢false (sym e))
 
-  branch_window : (b : Bool) → b ≡ true → window_from i (coarse f) (cond b (some x) none) ≡ window_from i (of_branch f) (cond b (some x) none)
+  branch_window : (b : Bool) → b ≡ true → window_from i (coarse f) (cond b (Some x) None) ≡ window_from i (of_branch f) (cond b (Some x) None)
   branch_window true e = refl
   branch_window false e = absurd (true≢false (sym e))
 
-  branch_byte : (b : Bool) → b ≡ true → byte_from i (coarse f) (cond b (some x) none) ≡ byte_from i (of_branch f) (cond b (some x) none)
+  branch_byte : (b : Bool) → b ≡ true → byte_from i (coarse f) (cond b (Some x) None) ≡ byte_from i (of_branch f) (cond b (Some x) None)
   branch_byte true e = refl
   branch_byte false e = absurd (true≢false (sym e))
 

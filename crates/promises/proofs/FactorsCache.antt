@@ -3,7 +3,7 @@
 use Prim.Native.Nat.{ℕ, ◌+◌}
 use mathlib.Core.Path.{◌≡◌, refl, sym, ap, ◌∙◌}
 use mathlib.Core.Bool.{Bool, true, false, not, cond, ◌&&◌}
-use mathlib.Core.Option.{Option, none, some}
+use Rattle.std.specs.Prelude.{Option, Some, None}
 use native.Mathlib.Omega.{arith}
 use lib.Dec.{eqb}
 use borrow.Author.Tests.{eqb-true, eqb-false}
@@ -29,15 +29,15 @@ use Rattle.promises.proofs.FactorsCost.{taken_by}
 
 -- the byte that is put, if any
 abbrev byte_by : Bool → Bool → ℕ → Bool → Option ℕ
-byte_by hit taken byte user = cond hit (some (higher_of byte + counter_after_of (counter_of byte) taken)) (cond taken (some (byte_of 2 true user)) none)
+byte_by hit taken byte user = cond hit (Some (higher_of byte + counter_after_of (counter_of byte) taken)) (cond taken (Some (byte_of 2 true user)) None)
 
 abbrev pub byte_from : Instruction → Factors → Option BranchFactors → Option ℕ
-byte_from i f none = none
-byte_from i f (some b) = cond (f.ebc && f.cached) (byte_by (valid_of b.byte && b.tag_equal) (taken_by i f b) b.byte (not f.supervisor)) none
+byte_from i f None = None
+byte_from i f (Some b) = cond (f.ebc && f.cached) (byte_by (valid_of b.byte && b.tag_equal) (taken_by i f b) b.byte (not f.supervisor)) None
 
 abbrev pub changed : BranchCache060 → ℕ → Option ℕ → BranchCache060
-changed c ppc none = c
-changed c ppc (some byte) = holding c ppc byte
+changed c ppc None = c
+changed c ppc (Some byte) = holding c ppc byte
 
 abbrev met : BranchCache060 → ℕ → Slot
 met c pc = slot_at c (slot_of pc)
@@ -74,13 +74,13 @@ module _ (P : Profile) (t : Oep060Timing) (r : Retirement) where
 
   asked_by : (asked taken : Bool)
       → cond asked (cache_update_of c k.ppc taken (not k.supervisor)) c
-      ≡ changed c k.ppc (cond asked (byte_by (hit_of (met c k.ppc) k.ppc) taken (met c k.ppc).byte (not k.supervisor)) none)
+      ≡ changed c k.ppc (cond asked (byte_by (hit_of (met c k.ppc) k.ppc) taken (met c k.ppc).byte (not k.supervisor)) None)
   asked_by true taken = update_is c k.ppc (not k.supervisor) taken
   asked_by false taken = refl
 
   cache_by : (b : Bool)
       → cond (b && (k.ebc && k.cached)) (cache_update_of c k.ppc (taken_of i k) (not k.supervisor)) c
-      ≡ changed c k.ppc (byte_from i F (cond b (some (branch_factors_of c k)) none))
+      ≡ changed c k.ppc (byte_from i F (cond b (Some (branch_factors_of c k)) None))
   unfolding taken_of
   cache_by true = asked_by (k.ebc && k.cached) (taken_of i k)
   cache_by false = refl

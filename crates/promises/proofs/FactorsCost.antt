@@ -3,7 +3,7 @@
 use Prim.Native.Nat.{ℕ, ◌+◌, ◌-◌, max}
 use mathlib.Core.Path.{◌≡◌, refl, sym, ap, ◌∙◌}
 use mathlib.Core.Bool.{Bool, true, false, not, cond, ◌&&◌, ◌||◌}
-use mathlib.Core.Option.{Option, none, some}
+use Rattle.std.specs.Prelude.{Option, Some, None}
 use lib.Dec.{eqb}
 use Rattle.class_word.specs.Word.{has, class_of, clocks_of, BRANCH, DBCC, VARIABLE, UNCLASSIFIED, EA_INDEXED, DEFINES_CCR, USES_CCR_LATE}
 use Rattle.branch_cache.specs.Slot.{predict_of}
@@ -16,14 +16,14 @@ use Rattle.window.specs.Dispatch.{memory, is_simple, late_ccr, second_memory}
 use Rattle.cost.specs.declared.branch.Answer.{Answer}
 use Rattle.cost.specs.declared.branch.Answer.TheVariants.{NotConsulted}
 use Rattle.cost.specs.Retiring.{branch, flow, neither, other_point, point_of}
-use Rattle.cost.specs.Branch.{taken_of, branch_cost}
+use Rattle.cost.specs.Branch.{taken_of, branch_cost, heard}
 use Rattle.cost.specs.Cost.{plain_of, base_of, pairs, as_head, cost_by, heads_by, window_by, cost_of, window_of}
 use Rattle.cost.proofs.Seen.{seen_cost, seen_window}
 use Rattle.profile.specs.declared.Profile.{Profile}
 use Rattle.profile.specs.Profile.{profile_of}
 use Rattle.state.specs.declared.Oep060Timing.{Oep060Timing}
 use Rattle.state.specs.declared.Retirement.{Retirement}
-use Rattle.state.specs.Events.{heard, answer_of, as_met}
+use Rattle.state.specs.Events.{answer_of, as_met}
 use Rattle.state.specs.CrateCache.{crate_cache}
 use Rattle.state.specs.Timing.{state_of}
 use Rattle.promises.specs.Factors.{BranchFactors, Factors, touched_of, branch_factors_of, factors_of, coarse}
@@ -58,12 +58,12 @@ abbrev pub taken_by : Instruction → Factors → BranchFactors → Bool
 taken_by i f b = cond (has i.word.0 DBCC) (not b.through) f.flowed
 
 abbrev pub cost_from : Instruction → Factors → Option BranchFactors → ℕ
-cost_from i f none = cond f.flowed (max f.fallback 5) (cond (joins_by i f) (base_by i f - 1) (base_by i f))
-cost_from i f (some b) = branch_cost (has i.word.0 DBCC) (taken_by i f b) f.opened (answer_from (f.ebc && f.cached) (some b))
+cost_from i f None = cond f.flowed (max f.fallback 5) (cond (joins_by i f) (base_by i f - 1) (base_by i f))
+cost_from i f (Some b) = branch_cost (has i.word.0 DBCC) (taken_by i f b) f.opened (answer_from (f.ebc && f.cached) (Some b))
 
 abbrev pub window_from : Instruction → Factors → Option BranchFactors → Window
-window_from i f none = cond (not f.flowed && (not (joins_by i f) && not (eqb (class_of i.word.0) 1))) (head_by i f) shut
-window_from i f (some b) = shut
+window_from i f None = cond (not f.flowed && (not (joins_by i f) && not (eqb (class_of i.word.0) 1))) (head_by i f) shut
+window_from i f (Some b) = shut
 
 -- ---- of a retirement these are its cost and its window
 
@@ -116,14 +116,14 @@ module _ (P : Profile) (t : Oep060Timing) (r : Retirement) where
   answer = answer_of crate_cache t.cache i k
 
   cost_by_lem : (b : Bool) → has i.word.0 BRANCH ≡ b
-      → cost_by (cond b branch (other_point k)) i k w answer ≡ cost_from i F (cond b (some (branch_factors_of t.cache k)) none)
+      → cost_by (cond b branch (other_point k)) i k w answer ≡ cost_from i F (cond b (Some (branch_factors_of t.cache k)) None)
   unfolding answer_of predict_of taken_of
   cost_by_lem true e =
       ap (λ (b : Bool).
       branch_cost (has i.word.0 DBCC) (taken_of i k) w.opened (cond (b && (k.ebc && k.cached)) (heard (cache_predict_of t.cache k.ppc)) NotConsulted)) e
   cost_by_lem false e = other_cost k.flowed answer
 
-  window_by_lem : (b : Bool) → unnamed (window_by (cond b branch (other_point k)) r.op i k w) ≡ window_from i F (cond b (some (branch_factors_of t.cache k)) none)
+  window_by_lem : (b : Bool) → unnamed (window_by (cond b branch (other_point k)) r.op i k w) ≡ window_from i F (cond b (Some (branch_factors_of t.cache k)) None)
   window_by_lem true = refl
   window_by_lem false = other_window k.flowed
 

@@ -3,7 +3,7 @@
 use Prim.Native.Nat.{ℕ, ◌+◌, ◌-◌, max}
 use mathlib.Core.Path.{◌≡◌, refl, sym, ap, ◌∙◌}
 use mathlib.Core.Bool.{Bool, true, false, cond, ◌||◌}
-use mathlib.Core.Option.{Option, none, some}
+use Rattle.std.specs.Prelude.{Option, Some, None}
 use native.Mathlib.Omega.{arith}
 use Rattle.class_word.specs.Word.{has, VARIABLE, UNCLASSIFIED, clocks_of, EA_INDEXED}
 use Rattle.window.specs.declared.dispatch.Instruction.{Instruction}
@@ -34,22 +34,22 @@ by_form false true false own more n = refl
 by_form false false false own more n = refl
 
 abbrev pub form_from : Instruction → Factors → Option BranchFactors → Form
-form_from i f none =
+form_from i f None =
     form_by f.flowed (joins_by i f) (has i.word.0 VARIABLE || has i.word.0 UNCLASSIFIED) (clocks_of i.word.0) (cond (has i.word.0 EA_INDEXED) 1 0)
-form_from i f (some b) = constant (cost_from i f (some b))
+form_from i f (Some b) = constant (cost_from i f (Some b))
 
 pub in_form : (i : Instruction) (f : Factors) (o : Option BranchFactors) (n : ℕ) → cost_from i (with_fallback f n) o ≡ charged (form_from i f o) n
-in_form i f none n =
+in_form i f None n =
     by_form f.flowed (joins_by i f) (has i.word.0 VARIABLE || has i.word.0 UNCLASSIFIED) (clocks_of i.word.0) (cond (has i.word.0 EA_INDEXED) 1 0) n
-in_form i f (some b) n = refl
+in_form i f (Some b) n = refl
 
 window_with : (i : Instruction) (f : Factors) (o : Option BranchFactors) → window_from i f o ≡ window_from i (with_fallback f 0) o
-window_with i f none = refl
-window_with i f (some b) = refl
+window_with i f None = refl
+window_with i f (Some b) = refl
 
 byte_with : (i : Instruction) (f : Factors) (o : Option BranchFactors) → byte_from i f o ≡ byte_from i (with_fallback f 0) o
-byte_with i f none = refl
-byte_with i f (some b) = refl
+byte_with i f None = refl
+byte_with i f (Some b) = refl
 
 module _ (P : Profile) (t t' : Oep060Timing) (r r' : Retirement) (e : with_fallback (coarse (factors_of P t r)) 0 ≡ with_fallback (coarse (factors_of P t' r')) 0) where
   abbrev G' : Factors

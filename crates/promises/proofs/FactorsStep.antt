@@ -3,7 +3,7 @@
 use Prim.Native.Nat.{ℕ}
 use mathlib.Core.Path.{◌≡◌, refl, sym, ap, ap₂, ◌∙◌}
 use mathlib.Core.Bool.{Bool, true, false, cond}
-use mathlib.Core.Option.{Option, none, some}
+use Rattle.std.specs.Prelude.{Option, Some, None}
 use Rattle.class_word.specs.declared.Clocks.{Clocks}
 use Rattle.class_word.specs.Word.{clocks}
 use Rattle.branch_cache.specs.declared.BranchCache060.{BranchCache060}
@@ -79,8 +79,8 @@ step_named P t r = go (heads_by (point_of i r.controls) i r.controls t.window)
 module _ (P : Profile) (t t' : Oep060Timing) (r r' : Retirement) where
   pub change_by : (o : Option ℕ) → (stepped_of P t r).timing.cache ≡ changed t.cache r.controls.ppc o
       → (stepped_of P t' r').timing.cache ≡ changed t'.cache r'.controls.ppc o → SameChange P t t' r r'
-  change_by none p q = kept p q
-  change_by (some byte) p q = put byte p q
+  change_by None p q = kept p q
+  change_by (Some byte) p q = put byte p q
 
   pub slots_by : SameChange P t t' r r' → r.controls.ppc ≡ r'.controls.ppc → InRange t → InRange t' → (n : ℕ)
       → slot_at t.cache n ≡ slot_at t'.cache n

@@ -3,7 +3,7 @@
 use mathlib.Core.Path.{◌≡◌, refl, sym, ap, ◌∙◌}
 use mathlib.Core.Bool.{Bool, true, false, cond, true≢false}
 use mathlib.Core.List.{List, [], ◌∷◌}
-use mathlib.Core.Option.{Option, none, some, some-injective}
+use Rattle.std.specs.Prelude.{Option, Some, None}
 use Prim.Native.Nat.{ℕ}
 use Rattle.window.specs.declared.dispatch.Instruction.{Instruction}
 use Rattle.window.specs.declared.dispatch.Controls.{Controls}
@@ -27,22 +27,15 @@ seen_open w = go w.opened
     go true e = refl
     go false e = absurd (true≢false (sym e))
 
--- whether there is a retirement, and that the last of a retirement and more is one
-abbrev is_some : Option Retirement → Bool
-is_some none = false
-is_some (some r) = true
-
-some_none : (o : Option Retirement) (r : Retirement) → or_else o r ≡ none → ⊥
-some_none o r e = go o e
-  where
-    go : (o : Option Retirement) → or_else o r ≡ none → ⊥
-    go none p = true≢false (ap is_some p)
-    go (some x) p = true≢false (ap is_some p)
+-- the last of a retirement and more is one
+some_none : (o : Option Retirement) (r : Retirement) → or_else o r ≡ None → ⊥
+some_none None r e = cc
+some_none (Some x) r e = cc
 
 -- the last of a retirement and more: that of the rest, or itself
-by_last : (o : Option Retirement) (x r : Retirement) → or_else o x ≡ some r → {P : Type 0} → (o ≡ none → x ≡ r → P) → (o ≡ some r → P) → P
-by_last none x r e f g = f refl (some-injective x r e)
-by_last (some y) x r e f g = g e
+by_last : (o : Option Retirement) (x r : Retirement) → or_else o x ≡ Some r → {P : Type 0} → (o ≡ None → x ≡ r → P) → (o ≡ Some r → P) → P
+by_last None x r e f g = f refl cc
+by_last (Some y) x r e f g = g e
 
 module _ (B : Board) where
   abbrev S : Type 0
@@ -71,7 +64,7 @@ module _ (B : Board) where
   kept s t w es o e = e ∙ w ∙ seen_open s.window (sym (ap (λ (v : Window). v.opened) (e ∙ w)) ∙ o)
 
   -- with no retirement an open window is the one that it began with
-  first : (s : S) (es : List Event) → last_of es ≡ none → (finally B s es).window.opened ≡ true → (finally B s es).window ≡ s.window
+  first : (s : S) (es : List Event) → last_of es ≡ None → (finally B s es).window.opened ≡ true → (finally B s es).window ≡ s.window
   unfolding finally
   first s [] e o = refl
   first s (Retired r ∷ es) e o = absurd (some_none (last_of es) r e)
@@ -80,7 +73,7 @@ module _ (B : Board) where
   first s (ClearedAll ∷ es) e o = kept s (after B s ClearedAll) refl es o (first (after B s ClearedAll) es e o)
   first s (ClearedUser ∷ es) e o = kept s (after B s ClearedUser) refl es o (first (after B s ClearedUser) es e o)
 
-  begun : (s : S) (es : List Event) (x r : Retirement) → last_of es ≡ none → x ≡ r → (finally B (after B s (Retired x)) es).window.opened ≡ true
+  begun : (s : S) (es : List Event) (x r : Retirement) → last_of es ≡ None → x ≡ r → (finally B (after B s (Retired x)) es).window.opened ≡ true
       → Named (finally B (after B s (Retired x)) es).window r.op r.controls.ppc
   begun s es x r n q o =
       let w = first (after B s (Retired x)) es n o in
@@ -88,10 +81,10 @@ module _ (B : Board) where
       (ap (λ (v : Window). v.op) w ∙ h.0 ∙ ap (λ (y : Retirement). y.op) q, ap (λ (v : Window). v.address) w ∙ h.1 ∙ ap (λ (y : Retirement). y.controls.ppc) q)
 
   -- else it is the last retirement's
-  last : (s : S) (es : List Event) (r : Retirement) → last_of es ≡ some r → (finally B s es).window.opened ≡ true
+  last : (s : S) (es : List Event) (r : Retirement) → last_of es ≡ Some r → (finally B s es).window.opened ≡ true
       → Named (finally B s es).window r.op r.controls.ppc
   unfolding finally
-  last s [] r e o = absurd (true≢false (sym (ap is_some e)))
+  last s [] r e o = cc
   last s (Retired x ∷ es) r e o =
       by_last (last_of es) x r e (λ n q. begun s es x r n q o) (λ p. last (after B s (Retired x)) es r p o)
   last s (Broken ∷ es) r e o = last (after B s Broken) es r e o

@@ -4,8 +4,8 @@ use Prim.Native.Nat.{ℕ}
 use mathlib.Core.Path.{◌≡◌, refl}
 use mathlib.Core.List.{List}
 use lib.ListN.{length}
-use Rattle.refusals.specs.declared.Verdict.{Verdict}
-use Rattle.refusals.specs.declared.Verdict.TheVariants.{Accepted, Refused}
+use Rattle.std.specs.Prelude.{Ok, Err}
+use Rattle.refusals.specs.Verdict.{Verdict}
 use Rattle.image.specs.Parts.{image_window_of}
 use Rattle.image.specs.Entries.{image_verdict_of, image_timing_by}
 use Rattle.image.proofs.Refusals.{image_gives_7, image_gives_8, image_gives_9, image_gives_10, image_accepts}
@@ -15,8 +15,8 @@ use Rattle.promises.specs.Images.{EveryImage}
 
 old_head_lem : (s : List ℕ) → length s ≡ 1288 → (v : Verdict) → ((image_timing_by v s).window.op ≡ 0) × ((image_timing_by v s).window.address ≡ 0)
 unfolding image_window_of
-old_head_lem s long Accepted = (rw long, rw long)
-old_head_lem s long (Refused refusal) = (refl, refl)
+old_head_lem s long (Ok done) = (rw long, rw long)
+old_head_lem s long (Err refusal) = (refl, refl)
 
 pub every_image : EveryImage
 every_image =

@@ -7,6 +7,7 @@ use mathlib.Core.List.{List, [], ◌∷◌, map}
 use native.Mathlib.Omega.{arith}
 use lib.ListN.{length, take, drop, length-map}
 use lib.Seq.{take_at}
+use Rattle.std.specs.Prelude.{Ok, Err}
 use Rattle.little_endian.specs.Numbers.{numbers_at, put_at, Below}
 use Rattle.little_endian.proofs.Each.{numbers_each}
 use Rattle.cost.specs.Cost.{cost_of}
@@ -19,10 +20,9 @@ use Rattle.state.specs.Events.{State, retiring_of, after, retirements, costs, to
 use Rattle.state.specs.CrateCache.{crate_cache}
 use Rattle.state.specs.Timing.{state_of, seen_of}
 use Rattle.step.specs.Boards.{board_of}
-use Rattle.refusals.specs.declared.Verdict.{Verdict}
-use Rattle.refusals.specs.declared.Verdict.TheVariants.{Accepted, Refused}
 use Rattle.refusals.specs.Given.{is_accepted}
 use Rattle.refusals.specs.Runs.{Runs, rooms_of}
+use Rattle.refusals.specs.Verdict.{Verdict}
 use Rattle.records.specs.Trace.{Trace, events, refused, read_trace}
 use Rattle.records.specs.TraceTable.{Accepts}
 use Rattle.records.specs.Judged.{judged_trace}
@@ -76,12 +76,12 @@ module _ (P : Profile) (trace : List ℕ) (lent : Runs) (t : Oep060Timing) where
 
 module _ (P : Profile) (rs : List Retirement) (lent : Runs) (t : Oep060Timing) where
   batch_by : (v : Verdict) → (batch_outcome_by P v rs lent t).ran.count / 2 ≤ (batch_outcome_by P v rs lent t).ran.total
-  batch_by Accepted = rw (← all_count rs) (at_least_lem P (state_of (seen_of t)) (events_of rs))
-  batch_by (Refused refusal) = omega arith
+  batch_by (Ok done) = rw (← all_count rs) (at_least_lem P (state_of (seen_of t)) (events_of rs))
+  batch_by (Err refusal) = omega arith
 
   batch_shut_by : t.window.opened ≡ false → (v : Verdict) → ((batch_outcome_by P v rs lent t).ran.count + 1) / 2 ≤ (batch_outcome_by P v rs lent t).ran.total
-  batch_shut_by h Accepted = rw (← all_count rs) (at_least_shut_lem P (state_of (seen_of t)) (events_of rs) (still_shut t h))
-  batch_shut_by h (Refused refusal) = omega arith
+  batch_shut_by h (Ok done) = rw (← all_count rs) (at_least_shut_lem P (state_of (seen_of t)) (events_of rs) (still_shut t h))
+  batch_shut_by h (Err refusal) = omega arith
 
   batch_moves : (batch_of P rs lent t).ran.count / 2 ≤ (batch_of P rs lent t).ran.total
   unfolding batch_of
@@ -131,11 +131,11 @@ module _ (P : Profile) (trace : List ℕ) (lent : Runs) (t : Oep060Timing) (es :
 module _ (P : Profile) (rs : List Retirement) (lent : Runs) (t : Oep060Timing) where
   batch_zero_by : (v : Verdict) → is_accepted (batch_outcome_by P v rs lent t).ran.verdict ≡ true
       → map is_zero (take (length rs) (batch_outcome_by P v rs lent t).lent.costs) ≡ map (is_free P) (meetings P (state_of (seen_of t)) (events_of rs))
-  batch_zero_by Accepted h =
+  batch_zero_by (Ok done) h =
       ap (map is_zero)
       (take_at (costs (board_of P) (state_of (seen_of t)) (events_of rs)) (drop (length rs) lent.costs) (length rs) (each_count (board_of P) cost_of (state_of (seen_of t)) (events_of rs) ∙ all_count rs))
       ∙ zeros P (state_of (seen_of t)) (events_of rs)
-  batch_zero_by (Refused refusal) h = absurd (true≢false (sym h))
+  batch_zero_by (Err refusal) h = absurd (true≢false (sym h))
 
   batch_zero_lem : is_accepted (batch_of P rs lent t).ran.verdict ≡ true
       → map is_zero (take (length rs) (batch_of P rs lent t).lent.costs) ≡ map (is_free P) (meetings P (state_of (seen_of t)) (events_of rs))

@@ -1,19 +1,19 @@
 -- The old reader: it refuses what is not 1,288 bytes long, and what is, is read as it read it.
 -- Assumes nothing.
 use mathlib.Core.Path.{◌≡◌, refl, ap, ◌∙◌}
-use mathlib.Core.Bool.{Bool, true, false, ◌&&◌}
+use mathlib.Core.Bool.{true}
 use mathlib.Core.List.{List}
 use Prim.Native.Nat.{ℕ}
-use lib.Dec.{eqb}
+use Rattle.std.proofs.Math.Bool.{and-true}
 use lib.ListN.{length}
-use Rattle.refusals.specs.declared.Verdict.{Verdict}
-use Rattle.refusals.specs.declared.Verdict.TheVariants.{Accepted, Refused}
+use Rattle.std.specs.Prelude.{Ok, Err}
 use Rattle.refusals.specs.Given.{gives}
+use Rattle.refusals.specs.Verdict.{Verdict}
 use Rattle.state.specs.declared.Oep060Timing.{Oep060Timing}
 use Rattle.state.specs.Timing.{fresh_of}
 use Rattle.window.specs.declared.Window.{Window}
-use Rattle.image.specs.Parts.{def_mask_at, bits_at, image_window_of}
-use Rattle.image.specs.Wrong.{header_wrong, shut_not_zero, window_wrong}
+use Rattle.image.specs.Parts.{image_window_of}
+use Rattle.image.specs.Wrong.{header_wrong, window_wrong}
 use Rattle.image.specs.Image.{image_of, image_state_of}
 use Rattle.image.specs.Entries.{image_verdict_of, image_timing_by, image_read_of}
 use Rattle.image.proofs.WrittenRead.{image_length_lem}
@@ -26,23 +26,18 @@ module _ (s : List ℕ) (long : length s ≡ 1294) where
   fresh : (old_read_of s).timing ≡ fresh_of
   fresh = rw long
 
--- two tests that hold change nothing of those before them
-and_true : (b : Bool) → (b && true && true) ≡ b
-and_true true = refl
-and_true false = refl
-
 module _ (s : List ℕ) (long : length s ≡ 1288) where
   same_verdict : image_verdict_of s ≡ old_verdict_of s
-  unfolding image_verdict_of header_wrong window_wrong shut_not_zero
-  same_verdict = rw (long, and_true (eqb (def_mask_at s) 0 && eqb (bits_at s) 0))
+  unfolding image_verdict_of header_wrong window_wrong
+  same_verdict = simp (long, and-true)
 
   same_window : image_window_of s ≡ old_window_of s
   unfolding image_window_of
   same_window = rw long
 
   same_timing : (v : Verdict) → image_timing_by v s ≡ old_timing_by v s
-  same_timing Accepted = ap (λ (w : Window). record { cache = (image_state_of s).cache; window = w }) same_window
-  same_timing (Refused refusal) = refl
+  same_timing (Ok done) = ap (λ (w : Window). record { cache = (image_state_of s).cache; window = w }) same_window
+  same_timing (Err refusal) = refl
 
   still_read_lem : image_read_of s ≡ old_read_of s
   still_read_lem =

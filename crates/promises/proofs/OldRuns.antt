@@ -2,20 +2,22 @@
 -- Assumes nothing.
 use Prim.Native.Nat.{ℕ, ◌*◌}
 use mathlib.Core.Path.{◌≡◌, refl, sym, ap, ◌∙◌}
-use mathlib.Core.Bool.{Bool, true, false, not, cond, ◌||◌, true≢false}
+use mathlib.Core.Bool.{Bool, true, false, cond, ◌||◌, true≢false}
 use mathlib.Core.List.{List}
 use lib.Dec.{ltb}
+use borrow.Author.Tests.{not-true}
+use Rattle.std.proofs.Math.Bool.{or-false}
 use lib.ListN.{length}
+use Rattle.std.specs.Prelude.{Ok, Err}
 use Rattle.profile.specs.declared.Profile.{Profile}
 use Rattle.state.specs.declared.Retirement.{Retirement}
 use Rattle.state.specs.declared.Oep060Timing.{Oep060Timing}
 use Rattle.state.specs.Events.{count_of}
 use Rattle.state.specs.Timing.{stepped_by}
 use Rattle.refusals.specs.declared.Refusal.TheVariants.{Oversized, Room}
-use Rattle.refusals.specs.declared.Verdict.{Verdict}
-use Rattle.refusals.specs.declared.Verdict.TheVariants.{Accepted, Refused}
 use Rattle.refusals.specs.Given.{is_accepted}
 use Rattle.refusals.specs.Runs.{Runs, rooms_of}
+use Rattle.refusals.specs.Verdict.{Verdict, accepted}
 use Rattle.records.specs.Trace.{Trace, events, refused, read_trace}
 use Rattle.records.specs.Judged.{with_room, judged_trace, verdict_of}
 use Rattle.trace.specs.Run.{trace_outcome_of, run_trace_of}
@@ -41,23 +43,14 @@ use Rattle.promises.specs.OldRuns.{
   OldRuns,
 }
 
--- the second test adds nothing: it fails, or the first holds already
-no_more : (a b : Bool) → b ≡ false → (a || b) ≡ a
-no_more true b h = refl
-no_more false b h = h
-
-not_so : (b : Bool) → not b ≡ true → b ≡ false
-not_so true h = absurd (true≢false (sym h))
-not_so false h = refl
-
 -- the verdict of an outcome is that of what the trace said
 verdict_said : (P : Profile) (lent : List ℕ) (t : Oep060Timing) (said : Trace) → (old_trace_outcome_of P said lent t).ran.verdict ≡ verdict_of said
 verdict_said P lent t (events es) = refl
 verdict_said P lent t (refused refusal) = refl
 
 verdict_by : (P : Profile) (rs : List Retirement) (ps : List ℕ) (t : Oep060Timing) (v : Verdict) → (old_batch_outcome_by P v rs ps t).ran.verdict ≡ v
-verdict_by P rs ps t Accepted = refl
-verdict_by P rs ps t (Refused refusal) = refl
+verdict_by P rs ps t (Ok done) = refl
+verdict_by P rs ps t (Err refusal) = refl
 
 module _ (P : Profile) (lent : Runs) (t : Oep060Timing) where
   abbrev n : ℕ
@@ -65,7 +58,7 @@ module _ (P : Profile) (lent : Runs) (t : Oep060Timing) where
 
   with_same : (size : ℕ) (said : Trace) → has_room said (length lent.answers) ≡ true → with_room size (rooms_of lent) said ≡ old_with_room size n said
   with_same size (events es) h =
-      ap (λ (b : Bool). cond b (refused (Room size)) (events es)) (no_more (ltb n (4 * count_of es)) (ltb (length lent.answers) (count_of es)) (not_so _ h))
+      simp (not-true (ltb (length lent.answers) (count_of es)) h, or-false)
   with_same size (refused refusal) h = refl
 
   with_refused : (size : ℕ) (said : Trace) → is_accepted (verdict_of (old_with_room size n said)) ≡ false → with_room size (rooms_of lent) said ≡ old_with_room size n said
@@ -103,19 +96,19 @@ module _ (P : Profile) (lent : Runs) (t : Oep060Timing) where
   unfolding batch_verdict_of
   verdict_refused rs = go (ltb 1048576 (length rs)) (ltb n (length rs))
     where
-      go : (o a : Bool) → is_accepted (cond o (Refused Oversized) (cond a (Refused (Room 0)) Accepted)) ≡ false
-          → ◌≡◌ {A = Verdict} (cond o (Refused Oversized) (cond (a || ltb (length lent.answers) (length rs)) (Refused (Room 0)) Accepted)) (cond o (Refused Oversized) (cond a (Refused (Room 0)) Accepted))
+      go : (o a : Bool) → is_accepted (cond o (Err Oversized) (cond a (Err (Room 0)) accepted)) ≡ false
+          → ◌≡◌ {A = Verdict} (cond o (Err Oversized) (cond (a || ltb (length lent.answers) (length rs)) (Err (Room 0)) accepted)) (cond o (Err Oversized) (cond a (Err (Room 0)) accepted))
       go true a h = refl
       go false true h = refl
       go false false h = absurd (true≢false h)
 
   verdict_same : (rs : List Retirement) → ltb (length lent.answers) (length rs) ≡ false → batch_verdict_of (length rs) (rooms_of lent) ≡ old_batch_verdict_of (length rs) n
   unfolding batch_verdict_of
-  verdict_same rs h = ap (λ (b : Bool). cond (ltb 1048576 (length rs)) (Refused Oversized) (cond b (Refused (Room 0)) Accepted)) (no_more (ltb n (length rs)) (ltb (length lent.answers) (length rs)) h)
+  verdict_same rs h = simp (h, or-false)
 
   by_same : (v : Verdict) (rs : List Retirement) → old_batch_outcome (batch_outcome_by P v rs lent t).ran (batch_outcome_by P v rs lent t).lent.costs ≡ old_batch_outcome_by P v rs lent.costs t
-  by_same Accepted rs = refl
-  by_same (Refused refusal) rs = refl
+  by_same (Ok done) rs = refl
+  by_same (Err refusal) rs = refl
 
   batch_same : (rs : List Retirement) → batch_verdict_of (length rs) (rooms_of lent) ≡ old_batch_verdict_of (length rs) n
       → old_batch_outcome (batch_of P rs lent t).ran (batch_of P rs lent t).lent.costs ≡ old_batch_of P rs lent.costs t

@@ -1,11 +1,12 @@
 -- The facts of every opcode, from its entry.
 -- Assumes nothing.
 use Prim.Native.Nat.{ℕ}
-use mathlib.Core.Path.{◌≡◌, refl, sym, ◌∙◌}
+use mathlib.Core.Path.{◌≡◌, sym, ◌∙◌}
 use mathlib.Core.Bool.{Bool, true, false, ◌&&◌}
 use native.Mathlib.Omega.{arith}
 use lib.Dec.{eqb}
 use borrow.Author.Tests.{eq-eqb}
+use Rattle.std.proofs.lemmas.Bool.{and_parts, false_from_ne_true}
 use Rattle.class_word.specs.Word.{class_number, class_of, has, VARIABLE, EA_INDEXED}
 use Rattle.classifier.specs.Entry.{Entry, entry_word}
 use Rattle.classifier.specs.Classify.{classify_of, entry_of}
@@ -17,9 +18,7 @@ module _ (e : Entry) (ok : Sound e) where
   in_class_lem {n} h = eq-eqb (class_number e.class) n (sym (class_kept e ok) ∙ h)
 
   not_both_lem : (a b : Bool) → (a ≡ true → b ≡ true → ⊥) → (a && b) ≡ false
-  not_both_lem true true h = absurd (h refl refl)
-  not_both_lem true false h = refl
-  not_both_lem false b h = refl
+  not_both_lem a b f = false_from_ne_true (a && b) (λ h. f (and_parts a b h).0 (and_parts a b h).1)
 
   word_fits : Fits (entry_word e)
   word_fits = record { within = within e ok; made_up = omega arith }

@@ -3,12 +3,13 @@
 use mathlib.Core.Path.{◌≡◌, refl, ap, ◌∙◌}
 use mathlib.Core.Bool.{Bool, true, false, not, cond, ◌&&◌}
 use mathlib.Core.List.{List, [], ◌∷◌}
+use Rattle.std.specs.Prelude.{Some}
 use lib.Bits.{bit_or}
+use Rattle.std.proofs.Math.Bool.{and-true, and_assoc}
 use Rattle.bits.specs.Words.{meets}
 use Rattle.window.specs.declared.dispatch.Instruction.{Instruction}
 use Rattle.window.specs.declared.dispatch.Controls.{Controls}
 use Rattle.window.specs.declared.dispatch.Rule.{Rule}
-use Rattle.window.specs.declared.dispatch.Dispatch.TheVariants.{Fails}
 use Rattle.window.specs.declared.Window.{Window}
 use Rattle.window.specs.Dispatch.{is_simple, late_ccr, second_memory, rules, holds, first_failing, failing, is_passed, passes}
 
@@ -22,15 +23,12 @@ unfolding first_failing
 none_joined h [] = refl
 none_joined h (a ∷ l) = go (h a) (none_joined h l)
   where
-    go : (b : Bool) → is_passed (first_failing h l) ≡ all_of h l → is_passed (cond b (first_failing h l) (Fails a)) ≡ (b && all_of h l)
+    go : (b : Bool) → is_passed (first_failing h l) ≡ all_of h l → is_passed (cond b (first_failing h l) (Some a)) ≡ (b && all_of h l)
     go true e = e
     go false e = refl
 
 last_three : (x y z : Bool) → (x && (y && (z && true))) ≡ (x && y && z)
-last_three true true true = refl
-last_three true true false = refl
-last_three true false z = refl
-last_three false y z = refl
+last_three x y z = simp (and-true, and_assoc)
 
 pub passes_and : (i : Instruction) (k : Controls) (w : Window)
     → passes i k w

@@ -2,10 +2,11 @@
 -- Assumes nothing.
 use Prim.Native.Nat.{ℕ, ◌+◌, ◌<◌}
 use mathlib.Core.Path.{◌≡◌, refl}
-use mathlib.Core.Bool.{Bool, true, false, not, ◌||◌, true≢false}
+use mathlib.Core.Bool.{Bool, true, false, not, ◌||◌}
 use native.Mathlib.Omega.{arith}
 use lib.Dec.{eqb}
 use borrow.Author.Tests.{eqb-true, ne_eqb, le-leb}
+use Rattle.std.proofs.lemmas.Bool.{or_parts}
 use Rattle.bits.specs.Below.{every_below}
 use Rattle.bits.specs.Pattern.{matches}
 use Rattle.bits.proofs.Below.{each_below, each_between}
@@ -38,20 +39,15 @@ use Rattle.profile.proofs.Reclassing.{ranged, on_four}
 use Rattle.promises.specs.Profiles.{another_register, MendedProfile}
 use Rattle.promises.proofs.OverPairing.{cached_at, never_over_pairs_lem, crate_over_pairs_lem}
 
--- neither of two is both not
-neither : (a b : Bool) → (a || b) ≡ false → (a ≡ false) × (b ≡ false)
-neither false b h = (refl, h)
-neither true b h = absurd (true≢false h)
-
 outside : (op : ℕ) → in_lines op ≡ false → profile_of Mended op ≡ profile_of Crate op
 unfolding mended_rows
 outside op h =
-    let a = neither _ (lea_on_4 op) h in
-    let b = neither _ (chk_on_4 op) a.0 in
-    let c = neither _ (unpk op) b.0 in
-    let d = neither _ (moves op) c.0 in
-    let e = neither _ (cmpm op) d.0 in
-    let f = neither (eor_of_registers op) (extb_long op) e.0 in
+    let a = or_parts _ (lea_on_4 op) h in
+    let b = or_parts _ (chk_on_4 op) a.0 in
+    let c = or_parts _ (unpk op) b.0 in
+    let d = or_parts _ (moves op) c.0 in
+    let e = or_parts _ (cmpm op) d.0 in
+    let f = or_parts (eor_of_registers op) (extb_long op) e.0 in
     simp (f.0, f.1, e.1, d.1, c.1, b.1, a.1)
 
 worked : profile_of Mended 0xB308 ≡ record { word = info 0x4404; uses = 0x0300; defs = 0x0300 }

@@ -5,11 +5,10 @@ use mathlib.Core.Logic.{◌↔◌}
 use mathlib.Core.Bool.{Bool, true, false, cond, ◌&&◌, ◌||◌}
 use lib.Dec.{eqb}
 use borrow.Author.Tests.{eqb-true, eq-eqb}
+use Rattle.std.specs.Prelude.{Option, Some, None}
 use Rattle.class_word.specs.Word.{has, BRANCH}
-use Rattle.branch_cache.specs.declared.slot.Predicted.{Predicted}
-use Rattle.branch_cache.specs.declared.slot.Predicted.TheVariants as P
 use Rattle.cost.specs.declared.branch.Answer.TheVariants.{NotConsulted}
-use Rattle.cost.specs.Branch.{taken_of, predicts_taken}
+use Rattle.cost.specs.Branch.{taken_of, predicts_taken, heard}
 use Rattle.window.specs.Windows.{shut}
 use Rattle.cost.specs.Cost.{cost_of}
 use Rattle.cost.specs.Free.{free}
@@ -17,15 +16,15 @@ use Rattle.cost.proofs.Zero.{zero_exactly_lem, zero_shuts}
 use Rattle.state.specs.declared.Retirement.{Retirement}
 use Rattle.state.specs.declared.Event.TheVariants.{Retired}
 use Rattle.state.specs.Board.{Board}
-use Rattle.state.specs.Events.{State, heard, answer_of, retiring_of, after}
+use Rattle.state.specs.Events.{State, answer_of, retiring_of, after}
 use Rattle.promises.specs.Demand3.{Sound, is_taken, joins, folds}
 
 -- the answer is "taken" only for a branch that asked a cache that predicts so
-by_asking : (b e c t : Bool) (x : Predicted)
+by_asking : (b e c t : Bool) (x : Option Bool)
     → (b && predicts_taken (cond (b && (e && c)) (heard x) NotConsulted) && t) ≡ (b && c && e && is_taken x && t)
-by_asking true true true t P.Miss = refl
-by_asking true true true t P.NotTaken = refl
-by_asking true true true t P.Taken = refl
+by_asking true true true t None = refl
+by_asking true true true t (Some false) = refl
+by_asking true true true t (Some true) = refl
 by_asking true true false t x = refl
 by_asking true false true t x = refl
 by_asking true false false t x = refl

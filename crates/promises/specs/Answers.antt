@@ -7,9 +7,8 @@
 --   told p t r       ==  the number that the step from the state t tells of it
 --   told_at p m      ==  the same of a retirement with the state that it meets
 --   EveryAnswer p    ==  the facts, each for every state
-use Rattle.std.specs.Prelude.{ℕ, ◌≡◌, ◌↔◌, Bool, true, false, not, List, map, eqb, length, take}
+use Rattle.std.specs.Prelude.{ℕ, ◌≡◌, ◌↔◌, Bool, true, false, not, List, map, Some, None, eqb, length, take}
 use Rattle.class_word.specs.Word.{has, BRANCH}
-use Rattle.branch_cache.specs.declared.slot.Predicted.TheVariants.{Miss, NotTaken, Taken}
 use Rattle.branch_cache.specs.Cache.{cache_predict_of}
 use Rattle.window.specs.declared.dispatch.Instruction.{Instruction}
 use Rattle.cost.specs.Branch.{taken_of, answer_number}
@@ -47,11 +46,11 @@ pub record EveryAnswer (p : Profile) : Type 0 where
   -- taken, 3 predicted taken
   pub not_consulted : (t : Oep060Timing) (r : Retirement) → (told p t r ≡ 0) ↔ (consulted p r ≡ false)
   pub miss : (t : Oep060Timing) (r : Retirement) → consulted p r ≡ true
-      → (told p t r ≡ 1) ↔ (cache_predict_of t.cache r.controls.ppc ≡ Miss)
+      → (told p t r ≡ 1) ↔ (cache_predict_of t.cache r.controls.ppc ≡ None)
   pub not_taken : (t : Oep060Timing) (r : Retirement) → consulted p r ≡ true
-      → (told p t r ≡ 2) ↔ (cache_predict_of t.cache r.controls.ppc ≡ NotTaken)
+      → (told p t r ≡ 2) ↔ (cache_predict_of t.cache r.controls.ppc ≡ Some false)
   pub taken : (t : Oep060Timing) (r : Retirement) → consulted p r ≡ true
-      → (told p t r ≡ 3) ↔ (cache_predict_of t.cache r.controls.ppc ≡ Taken)
+      → (told p t r ≡ 3) ↔ (cache_predict_of t.cache r.controls.ppc ≡ Some true)
   -- "sees a 7": where the cache is consulted, a branch costs 7 exactly where it was predicted taken and is not, or was
   -- not predicted taken and is
   pub seven : (t : Oep060Timing) (r : Retirement) → consulted p r ≡ true

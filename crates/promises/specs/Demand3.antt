@@ -9,10 +9,9 @@
 --
 -- A sequence of events is any list of retirements, breaks and clears, from any state: "in any sequence with no state
 -- loaded between".
-use Rattle.std.specs.Prelude.{ℕ, ◌+◌, ◌/◌, ◌≤◌, ◌≡◌, ◌↔◌, Bool, true, false, not, ◌&&◌, ◌||◌, List, length}
+use Rattle.std.specs.Prelude.{ℕ, ◌+◌, ◌/◌, ◌≤◌, ◌≡◌, ◌↔◌, Bool, true, false, not, ◌&&◌, ◌||◌}
+use Rattle.std.specs.Prelude.{List, Option, Some, None, length}
 use Rattle.class_word.specs.Word.{has, BRANCH}
-use Rattle.branch_cache.specs.declared.slot.Predicted.{Predicted}
-use Rattle.branch_cache.specs.declared.slot.Predicted.TheVariants.{Miss, NotTaken, Taken}
 use Rattle.cost.specs.Branch.{taken_of}
 use Rattle.window.specs.Windows.{shut}
 use Rattle.window.specs.Dispatch.{passes}
@@ -27,10 +26,9 @@ use Rattle.state.specs.Events.{State, retiring_of, after, retirements, costs, to
 abbrev pub Sound : Board → Type 0
 Sound B = (op : ℕ) → sound (B.profile op).word.0 ≡ true
 
-abbrev pub is_taken : Predicted → Bool
-is_taken Miss = false
-is_taken NotTaken = false
-is_taken Taken = true
+abbrev pub is_taken : Option Bool → Bool
+is_taken None = false
+is_taken (Some taken) = taken
 
 module _ (B : Board) where
   abbrev pub joins : State B.rule → Retirement → Bool

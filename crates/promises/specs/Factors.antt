@@ -28,8 +28,7 @@
 --   EqualFactors p          ==  the facts, each for every two states and retirements
 --
 -- `InRange t` says what the code's types hold always: arrays of 256 elements, and numbers that fit.
-use Rattle.std.specs.Prelude.{ℕ, ◌+◌, ◌-◌, ◌%◌, ◌^◌, max, ◌≡◌, Bool, true, false, cond, eqb}
-use Rattle.std.proofs.Math.Option.{Option, none, some}
+use Rattle.std.specs.Prelude.{ℕ, ◌+◌, ◌-◌, ◌%◌, ◌^◌, max, ◌≡◌, Bool, true, false, cond, Option, Some, None, eqb}
 use Rattle.std.specs.Int.Bits.{bit_and, bit_or}
 use Rattle.class_word.specs.Word.{has, clocks, BRANCH}
 use Rattle.branch_cache.specs.declared.BranchCache060.{BranchCache060}
@@ -101,7 +100,7 @@ factors_of p t r =
       warm = (seen t.window).warm;
       fallback = fallback_of r.controls.raw.0;
       branch =
-          cond (has (profile_of p r.op).word.0 BRANCH) (some (branch_factors_of t.cache r.controls)) none;
+          cond (has (profile_of p r.op).word.0 BRANCH) (Some (branch_factors_of t.cache r.controls)) None;
     }
 
 abbrev pub but : Factors → ℕ → Bool → Bool → Bool → ℕ → Factors

@@ -9,8 +9,7 @@
 --
 -- Two states differ only there where they are equal without them. A sequence of events is any list of retirements,
 -- breaks and clears, from any state.
-use Rattle.std.specs.Prelude.{◌≡◌, true, false, List, [], ◌∷◌}
-use Rattle.std.proofs.Math.Option.{Option, none, some}
+use Rattle.std.specs.Prelude.{◌≡◌, true, false, List, [], ◌∷◌, Option, Some, None}
 use Rattle.window.specs.Windows.{shut, seen, unnamed}
 use Rattle.state.specs.declared.Retirement.{Retirement}
 use Rattle.state.specs.declared.Event.{Event}
@@ -19,11 +18,11 @@ use Rattle.state.specs.Board.{Board}
 use Rattle.state.specs.Events.{State, after, finally, costs}
 
 abbrev pub or_else : Option Retirement → Retirement → Option Retirement
-or_else none r = some r
-or_else (some later) r = some later
+or_else None r = Some r
+or_else (Some later) r = Some later
 
 abbrev pub last_of : List Event → Option Retirement
-last_of [] = none
+last_of [] = None
 last_of (Retired r ∷ es) = or_else (last_of es) r
 last_of (Broken ∷ es) = last_of es
 last_of (ClearedAll ∷ es) = last_of es
@@ -51,10 +50,10 @@ module _ (B : Board) where
     pub clear_all_keeps : (s : State B.rule) → (after B s ClearedAll).window ≡ seen s.window
     pub clear_user_keeps : (s : State B.rule) → (after B s ClearedUser).window ≡ seen s.window
     -- so after any events an open window has the opcode and the ppc of the last retirement,
-    pub head_is_last : (s : State B.rule) (es : List Event) (r : Retirement) → last_of es ≡ some r
+    pub head_is_last : (s : State B.rule) (es : List Event) (r : Retirement) → last_of es ≡ Some r
         → (finally B s es).window.opened ≡ true
         → ((finally B s es).window.op ≡ r.op) × ((finally B s es).window.address ≡ r.controls.ppc)
     -- or, where there was none, those that it began with
-    pub head_is_first : (s : State B.rule) (es : List Event) → last_of es ≡ none
+    pub head_is_first : (s : State B.rule) (es : List Event) → last_of es ≡ None
         → (finally B s es).window.opened ≡ true
         → ((finally B s es).window.op ≡ s.window.op) × ((finally B s es).window.address ≡ s.window.address)

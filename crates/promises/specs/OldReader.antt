@@ -13,7 +13,7 @@
 --   old_timing_by v s    ==  that, or "a fresh state (zeros, window shut)" where it refuses
 --   old_read_of s        ==  its whole answer
 --   OldReader            ==  the facts
-use Rattle.std.specs.Prelude.{ℕ, ◌^◌, ◌≡◌, Bool, not, true, ◌&&◌, ◌||◌, List, eqb, leb, ltb, length}
+use Rattle.std.specs.Prelude.{ℕ, ◌^◌, ◌≡◌, Bool, not, true, ◌&&◌, ◌||◌, List, Ok, Err, eqb, leb, ltb, length}
 use Rattle.bits.specs.Rows.{otherwise, ◌⇒◌⨾◌, first}
 use Rattle.bits.specs.Words.{bit}
 use Rattle.little_endian.specs.Numbers.{number_at}
@@ -21,9 +21,8 @@ use Rattle.window.specs.declared.Window.{Window}
 use Rattle.state.specs.declared.Oep060Timing.{Oep060Timing}
 use Rattle.state.specs.Timing.{fresh_of}
 use Rattle.refusals.specs.declared.Refusal.TheVariants.{ImageLength, ImageHeader, ImageWindow}
-use Rattle.refusals.specs.declared.Verdict.{Verdict}
-use Rattle.refusals.specs.declared.Verdict.TheVariants.{Accepted, Refused}
 use Rattle.refusals.specs.Given.{gives}
+use Rattle.refusals.specs.Verdict.{Verdict, accepted}
 use Rattle.image.specs.declared.ImageRead.{ImageRead}
 use Rattle.image.specs.ImageLayout.{image_length, old_payload, old_kind, old_length}
 use Rattle.image.specs.Parts.{image_tags_of, image_slots_of, open_at, def_mask_at, bits_at}
@@ -42,10 +41,10 @@ old_window_wrong s = ltb 1 (open_at s) || leb (2 ^ 3) (bits_at s) || old_shut_no
 abbrev pub old_verdict_of : List ℕ → Verdict
 old_verdict_of s =
     first
-    (not (eqb (length s) old_length) ⇒ Refused ImageLength
-    ⨾ old_header_wrong s ⇒ Refused ImageHeader
-    ⨾ old_window_wrong s ⇒ Refused ImageWindow
-    ⨾ otherwise Accepted)
+    (not (eqb (length s) old_length) ⇒ Err ImageLength
+    ⨾ old_header_wrong s ⇒ Err ImageHeader
+    ⨾ old_window_wrong s ⇒ Err ImageWindow
+    ⨾ otherwise accepted)
 
 abbrev pub old_window_of : List ℕ → Window
 old_window_of s =
@@ -64,8 +63,8 @@ old_state_of s =
     record { cache = record { tags = image_tags_of s; state = image_slots_of s }; window = old_window_of s }
 
 abbrev pub old_timing_by : Verdict → List ℕ → Oep060Timing
-old_timing_by Accepted s = old_state_of s
-old_timing_by (Refused refusal) s = fresh_of
+old_timing_by (Ok done) s = old_state_of s
+old_timing_by (Err refusal) s = fresh_of
 
 abbrev pub old_read_of : List ℕ → ImageRead
 old_read_of s = record { verdict = old_verdict_of s; timing = old_timing_by (old_verdict_of s) s }

@@ -29,7 +29,7 @@
 --                                            retirement
 --   OldRuns p                            ==  the facts: wherever the second run has room, all of it is as it was; and
 --                                            what was refused before is refused so whatever room the second run has
-use Rattle.std.specs.Prelude.{ℕ, ◌*◌, ◌≡◌, Bool, true, false, not, cond, List, ◌++◌, ltb, length, drop}
+use Rattle.std.specs.Prelude.{ℕ, ◌*◌, ◌≡◌, Bool, true, false, not, cond, List, ◌++◌, Ok, Err, ltb, length, drop}
 use Rattle.little_endian.specs.Numbers.{put_at}
 use Rattle.class_word.specs.declared.Clocks.{Clocks}
 use Rattle.class_word.specs.Word.{clocks}
@@ -47,12 +47,11 @@ use Rattle.step.specs.Boards.{board_of, stepped_of}
 use Rattle.in_place.specs.Lent.{Lent, state_at, lent_of}
 use Rattle.in_place.specs.Retire.{retire_at_of}
 use Rattle.refusals.specs.declared.Refusal.TheVariants.{Oversized, Room}
-use Rattle.refusals.specs.declared.Verdict.{Verdict}
-use Rattle.refusals.specs.declared.Verdict.TheVariants.{Accepted, Refused}
 use Rattle.refusals.specs.declared.outcome.Ran.{Ran}
 use Rattle.refusals.specs.Given.{is_accepted}
 use Rattle.refusals.specs.Refused.{refused_of}
 use Rattle.refusals.specs.Runs.{Runs}
+use Rattle.refusals.specs.Verdict.{Verdict, accepted}
 use Rattle.records.specs.Trace.{Trace, events, refused, read_trace}
 use Rattle.trace.specs.Run.{cost_bytes, costs_of, next_of, ran_at, run_trace_of}
 use Rattle.batch.specs.Batch.{events_of, batch_of}
@@ -112,7 +111,7 @@ abbrev pub old_run_trace_of : Profile → List ℕ → List ℕ → Oep060Timing
 old_run_trace_of p trace lent t = old_trace_outcome_of p (old_judged_trace trace (length lent)) lent t
 
 abbrev pub old_batch_verdict_of : ℕ → ℕ → Verdict
-old_batch_verdict_of n m = cond (ltb 1048576 n) (Refused Oversized) (cond (ltb m n) (Refused (Room 0)) Accepted)
+old_batch_verdict_of n m = cond (ltb 1048576 n) (Err Oversized) (cond (ltb m n) (Err (Room 0)) accepted)
 
 pub record OldBatchOutcome : Type 0 where
   pub ran : Ran
@@ -127,7 +126,7 @@ old_batch_accepted_of p rs ps t =
     let paid = costs (board_of p) s (events_of rs) in
     old_batch_outcome
     (record {
-      verdict = Accepted;
+      verdict = accepted;
       count = length rs;
       total = total paid;
       timing = timing_of (finally (board_of p) s (events_of rs));
@@ -135,8 +134,8 @@ old_batch_accepted_of p rs ps t =
     (paid ++ drop (length rs) ps)
 
 abbrev pub old_batch_outcome_by : Profile → Verdict → List Retirement → List ℕ → Oep060Timing → OldBatchOutcome
-old_batch_outcome_by p Accepted rs ps t = old_batch_accepted_of p rs ps t
-old_batch_outcome_by p (Refused refusal) rs ps t = old_batch_outcome (refused_of refusal t) ps
+old_batch_outcome_by p (Ok done) rs ps t = old_batch_accepted_of p rs ps t
+old_batch_outcome_by p (Err refusal) rs ps t = old_batch_outcome (refused_of refusal t) ps
 
 abbrev pub old_batch_of : Profile → List Retirement → List ℕ → Oep060Timing → OldBatchOutcome
 old_batch_of p rs ps t = old_batch_outcome_by p (old_batch_verdict_of (length rs) (length ps)) rs ps t

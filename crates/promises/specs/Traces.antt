@@ -18,9 +18,9 @@ use Rattle.state.specs.declared.Event.TheVariants.{Retired, Broken, ClearedAll, 
 use Rattle.state.specs.Timing.{seen_of}
 use Rattle.step.specs.Boards.{stepped_of, after_of}
 use Rattle.refusals.specs.declared.Refusal.{Refusal}
-use Rattle.refusals.specs.declared.Verdict.TheVariants.{Accepted}
 use Rattle.refusals.specs.Refused.{refused_of}
 use Rattle.refusals.specs.Runs.{Runs, runs, rooms_of}
+use Rattle.refusals.specs.Verdict.{accepted}
 use Rattle.trace.specs.Run.{trace_outcome, trace_accepted_of, costs_of, answers_of, next_of, run_trace_of}
 use Rattle.records.specs.TraceTable.{Refuses, Accepts}
 use Rattle.state.specs.Events.{count_of}
@@ -76,7 +76,7 @@ pub record EveryTrace (p : Profile) : Type 0 where
       run_trace_of p (a ++ b) (joined lent lent') t
       ≡ trace_outcome
       (record {
-        verdict = Accepted;
+        verdict = accepted;
         count = first.ran.count + second.ran.count;
         total = first.ran.total + second.ran.total;
         timing = second.ran.timing;

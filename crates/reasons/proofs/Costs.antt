@@ -7,8 +7,7 @@ use mathlib.Core.Option.{some}
 use lib.Dec.{eqb}
 use borrow.Author.Tests.{eqb-true}
 use Rattle.class_word.specs.Word.{has, BRANCH, DBCC}
-use Rattle.window.specs.declared.dispatch.Dispatch.{Dispatch}
-use Rattle.window.specs.declared.dispatch.Dispatch.TheVariants.{Passes, Fails}
+use Rattle.std.specs.Prelude.{None, Option, Some}
 use Rattle.window.specs.declared.dispatch.Rule.{Rule}
 use Rattle.window.specs.declared.dispatch.Rule.TheVariants.{EssOn, BothCached, Simple, RegistersFree, NoLateCcr, OneMemory}
 use Rattle.window.specs.Dispatch.{failing, is_passed, passes}
@@ -50,9 +49,9 @@ rule_costs RegistersFree = refl
 rule_costs NoLateCcr = refl
 rule_costs OneMemory = refl
 
-other_free : (o : Bool) (d : Dispatch) → (o && is_passed d) ≡ costs_nothing (cond o (dispatched d) WindowShut)
-other_free true Passes = refl
-other_free true (Fails rule) = sym (rule_costs rule)
+other_free : (o : Bool) (d : Option Rule) → (o && is_passed d) ≡ costs_nothing (cond o (dispatched d) WindowShut)
+other_free true None = refl
+other_free true (Some rule) = sym (rule_costs rule)
 other_free false d = refl
 
 module _ (r : Retiring) (ok : sound r.instruction.word.0 ≡ true) where
@@ -92,9 +91,9 @@ rule_fixes NoLateCcr h = cc
 rule_fixes OneMemory h = cc
 
 -- of what is neither branch nor flow, a reason that fixes a cost is `paired`
-other_fixed : (o : Bool) (d : Dispatch) {n : ℕ} → fixed_cost (cond o (dispatched d) WindowShut) ≡ some n → (costs_nothing (cond o (dispatched d) WindowShut) ≡ true) × (0 ≡ n)
-other_fixed true Passes h = (refl, cc)
-other_fixed true (Fails rule) h = absurd (true≢false (rule_fixes rule h))
+other_fixed : (o : Bool) (d : Option Rule) {n : ℕ} → fixed_cost (cond o (dispatched d) WindowShut) ≡ some n → (costs_nothing (cond o (dispatched d) WindowShut) ≡ true) × (0 ≡ n)
+other_fixed true None h = (refl, cc)
+other_fixed true (Some rule) h = absurd (true≢false (rule_fixes rule h))
 other_fixed false d h = (cc, cc)
 
 by_point : (r : Retiring) {x : Point} → point r ≡ x → reason_of r ≡ reason_by x r.instruction r.controls r.window r.answer

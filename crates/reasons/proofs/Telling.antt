@@ -18,8 +18,8 @@ use Rattle.state.specs.CrateCache.{crate_cache}
 use Rattle.state.specs.Events.{State, retiring_of, retirements, count_of}
 use Rattle.state.specs.Timing.{state_of, seen_of}
 use Rattle.step.specs.Boards.{board_of, after_of}
-use Rattle.records.specs.declared.record.Read.TheVariants.{Got, Bad, End}
-use Rattle.records.specs.Record.{read_at}
+use Rattle.std.specs.Prelude.{Err}
+use Rattle.records.specs.Record.{got, ended, read_at}
 use Rattle.records.specs.Trace.{Trace, events, refused, ahead, read_from}
 use Rattle.records.specs.Judged.{FitsAnswers}
 use Rattle.records.proofs.Walking.{from_end, from_bad, from_got}
@@ -78,13 +78,13 @@ telling_start P trace reasons t {u} e f = record { same = refl; tells = f; leads
     go (refused refusal) = refl
 
 module _ {P : Profile} {trace reasons₀ : List ℕ} {t₀ : Oep060Timing} {reasons : List ℕ} {at k : ℕ} {t : Oep060Timing} (g : Telling P trace reasons₀ t₀ reasons at k t) where
-  pub telling_end : read_at trace at ≡ End → reasons ≡ reasons_left P (read_from trace 0) reasons₀ t₀
+  pub telling_end : read_at trace at ≡ ended → reasons ≡ reasons_left P (read_from trace 0) reasons₀ t₀
   telling_end q = sym (none_left P reasons k t) ∙ sym (ap (reasons_from P reasons k t) (from_end trace at q)) ∙ g.leads
 
-  pub telling_bad : (refusal : Refusal) → read_at trace at ≡ Bad refusal → ⊥
+  pub telling_bad : (refusal : Refusal) → read_at trace at ≡ Err refusal → ⊥
   telling_bad refusal q = subst (FitsAnswers k (length reasons)) (from_bad trace at refusal q) g.tells
 
-  module _ (e : Event) (next : ℕ) (q : read_at trace at ≡ Got e next) where
+  module _ (e : Event) (next : ℕ) (q : read_at trace at ≡ got e next) where
     tells_here : FitsAnswers k (length reasons) (ahead e (read_from trace next))
     tells_here = subst (FitsAnswers k (length reasons)) (from_got trace at e next q) g.tells
 
@@ -99,7 +99,7 @@ module _ {P : Profile} {trace reasons₀ : List ℕ} {t₀ : Oep060Timing} {reas
           leads = sym (ap (reasons_from P reasons k t) (from_got trace at e next q) ∙ quiet_one P reasons k t e (read_from trace next) z) ∙ g.leads;
         }
 
-  module _ (r : Retirement) (next : ℕ) (q : read_at trace at ≡ Got (Retired r) next) where
+  module _ (r : Retirement) (next : ℕ) (q : read_at trace at ≡ got (Retired r) next) where
     pub telling_room : k < length reasons
     telling_room = omega (arith, tells_room (k + 1) (length reasons) (read_from trace next) (tells_next (Retired r) next q))
 

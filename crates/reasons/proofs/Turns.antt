@@ -1,79 +1,99 @@
--- One record of a run that says why: its turn, and what it does to the reasons of a run that goes on.
+-- One event of a run that says why: what it does to a run that goes on (`Going`), and to its reasons (`Telling`).
 -- Assumes nothing.
-use Prim.Native.Nat.{ℕ, ◌+◌, ◌≤◌, ◌<◌}
-use mathlib.Core.Path.{◌≡◌, refl, sym, ap, subst, ◌∙◌}
+use Prim.Native.Nat.{ℕ, ◌+◌, ◌*◌, ◌^◌, ◌≤◌, ◌<◌}
+use mathlib.Core.Path.{◌≡◌, refl, ap, ◌∙◌}
 use mathlib.Core.List.{List, [], ◌∷◌}
-use native.Mathlib.Omega.{arith}
 use lib.ListN.{length}
+use Rattle.std.specs.Prelude.{None, Some}
 use Rattle.little_endian.specs.Numbers.{put_at}
-use Rattle.class_word.specs.Word.{clocks}
 use Rattle.cost.specs.Branch.{answer_number}
 use Rattle.profile.specs.declared.Profile.{Profile}
 use Rattle.state.specs.declared.Retirement.{Retirement}
 use Rattle.state.specs.declared.Event.{Event}
 use Rattle.state.specs.declared.Event.TheVariants.{Retired, Broken, ClearedAll, ClearedUser}
 use Rattle.state.specs.declared.Oep060Timing.{Oep060Timing}
+use Rattle.state.specs.declared.Stepped.{Stepped}
 use Rattle.state.specs.Events.{count_of}
 use Rattle.state.specs.Timing.{stepped_by}
-use Rattle.step.specs.Boards.{after_of}
-use Rattle.in_place.specs.Lent.{Lent, state_at, lent_of}
-use Rattle.records.specs.declared.record.Read.{Read}
-use Rattle.records.specs.declared.record.Read.TheVariants.{Got, Bad, End}
-use Rattle.records.specs.Record.{read_at}
-use Rattle.records.proofs.RecordRows.{read_explained, Explained}
-use Rattle.trace.specs.TraceTurns.{Turned, turned, turn_for, turn_of}
+use Rattle.step.specs.Boards.{stepped_of, after_of}
+use Rattle.in_place.specs.Lent.{Lent, state_at}
+use Rattle.in_place.specs.Retire.{event_at_of}
+use Rattle.refusals.specs.Runs.{Runs}
+use Rattle.records.specs.Record.{got, read_at}
+use Rattle.trace.proofs.TraceRunning.{put_next}
+use Rattle.trace.proofs.Going.{Going, going_quiet, going_room, going_cost}
 use Rattle.trace.proofs.Turning.{timing_held}
-use Rattle.reasons.specs.declared.explain.Explained as told
+use Rattle.reasons.specs.declared.explain.Explained.{Explained}
 use Rattle.reasons.specs.Reasons.{reason_number}
-use Rattle.reasons.specs.Explain.{ExplainedAt, explained_at, explain_at_of, reason_for}
-use Rattle.reasons.specs.Turns.{reason_told}
-use Rattle.reasons.proofs.Telling.{Telling, telling_bad, telling_quiet, telling_room, telling_one}
+use Rattle.reasons.specs.Explain.{explained_of, met_of, told_for}
+use Rattle.reasons.proofs.Telling.{Telling, telling_quiet, telling_room, telling_one}
 
 module _ (P : Profile) (l : Lent) where
-  pub retired_turn : (next : ℕ) (r : Retirement) {o : told.Explained} {m : Lent} → explained_at o m ≡ explain_at_of P l r → {n : ℕ} → n ≡ answer_number o.answer → {y : ℕ} → y ≡ reason_number o.reason
-      → (turned (record { next = next; count = 1; cost = o.cost; answer = n }) m ≡ turn_for P l next (Retired r)) × (y ≡ reason_for P l (Retired r))
-  unfolding stepped_by
-  retired_turn next r e f g = (
-    rw f (ap (λ (x : ExplainedAt). turned (record { next = next; count = 1; cost = x.explained.cost; answer = answer_number x.explained.answer }) x.lent) e),
-    g ∙ ap (λ (x : ExplainedAt). reason_number x.explained.reason) e,
-  )
+  -- what is not told is no retirement
+  none_told : (e : Event) → told_for P l e ≡ None → count_of (e ∷ []) ≡ 0
+  none_told (Retired r) h = cc
+  none_told Broken h = refl
+  none_told ClearedAll h = refl
+  none_told ClearedUser h = refl
 
-  -- what holds of the event that the arm names holds of this one
-  pub by_event : (next : ℕ) {e x : Event} → e ≡ x → {y : Turned} {n : ℕ} → (y ≡ turn_for P l next x) × (n ≡ reason_for P l x) → (y ≡ turn_for P l next e) × (n ≡ reason_for P l e)
-  by_event next h t = (t.0 ∙ sym (ap (turn_for P l next) h), t.1 ∙ sym (ap (reason_for P l) h))
+  -- what is told is a retirement's
+  record Told (e : Event) (x : Explained) : Type 0 where
+    r : Retirement
+    is : e ≡ Retired r
+    so : x ≡ explained_of (met_of P l r)
 
-module _ {P : Profile} {trace reasons₀ : List ℕ} {t₀ : Oep060Timing} {reasons : List ℕ} {at k : ℕ} (l : Lent) (g : Telling P trace reasons₀ t₀ reasons at k (state_at l)) where
-  pub record Said (x : Turned) (n : ℕ) : Type 0 where
-    pub quiet : x.turn.count ≤ 0 → Telling P trace reasons₀ t₀ reasons x.turn.next k (state_at x.lent)
-    pub room : 0 < x.turn.count → k < length reasons
-    pub one : 0 < x.turn.count → Telling P trace reasons₀ t₀ (put_at reasons k (n ∷ [])) x.turn.next (k + 1) (state_at x.lent)
+  one_told : (e : Event) {x : Explained} → told_for P l e ≡ Some x → Told e x
+  one_told (Retired r) h = record { r = r; is = refl; so = cc }
+  one_told Broken h = cc
+  one_told ClearedAll h = cc
+  one_told ClearedUser h = cc
 
-  said_quiet : (e : Event) (next : ℕ) → read_at trace at ≡ Got e next → count_of (e ∷ []) ≡ 0 → {n : ℕ}
-      → Said (turned (record { next = next; count = count_of (e ∷ []); cost = clocks 0; answer = 0 }) (lent_of (after_of P (state_at l) e))) n
-  said_quiet e next q z =
+-- a run that goes on, with its reasons
+pub record Both (P : Profile) (trace : List ℕ) (lent₀ : Runs) (reasons₀ : List ℕ) (t₀ : Oep060Timing) (runs : Runs)
+    (reasons : List ℕ) (at k sum : ℕ) (t : Oep060Timing) : Type 0 where
+  pub going : Going P trace lent₀ t₀ runs at k sum t
+  pub telling : Telling P trace reasons₀ t₀ reasons at k t
+
+module _ {P : Profile} {trace : List ℕ} {lent₀ : Runs} {reasons₀ : List ℕ} {t₀ : Oep060Timing} {runs : Runs}
+    {reasons : List ℕ} {at k sum : ℕ} (l : Lent)
+    (b : Both P trace lent₀ reasons₀ t₀ runs reasons at k sum (state_at l))
+    (e : Event) (next : ℕ) (q : read_at trace at ≡ got e next) where
+  left : {m : Lent} → m ≡ event_at_of P l e → state_at m ≡ after_of P (state_at l) e
+  left h = ap state_at h ∙ timing_held (after_of P (state_at l) e)
+
+  pub both_quiet : told_for P l e ≡ None → {m : Lent} → m ≡ event_at_of P l e
+      → Both P trace lent₀ reasons₀ t₀ runs reasons next k sum (state_at m)
+  both_quiet h f =
+      let z : count_of (e ∷ []) ≡ 0 = none_told P l e h in
       record {
-        quiet = λ h. rw (timing_held (after_of P (state_at l) e)) (telling_quiet g e next q z);
-        room = λ h. absurd (omega arith);
-        one = λ h. absurd (omega arith);
+        going = going_quiet b.going e next q z (left f);
+        telling = rw (left f) (telling_quiet b.telling e next q z);
       }
 
-  said_got : (e : Event) (next : ℕ) → read_at trace at ≡ Got e next → Said (turn_for P l next e) (reason_for P l e)
+  -- what a retirement costs and why is put behind the others
+  retired_told : (r : Retirement) → e ≡ Retired r → {x : Explained} → x ≡ explained_of (met_of P l r) → {m : Lent}
+      → m ≡ event_at_of P l e → x.cost.0 < 2 ^ 32
+      → Both P trace lent₀ reasons₀ t₀ (put_next runs k x.cost.0 (answer_number x.answer))
+      (put_at reasons k (reason_number x.reason ∷ [])) next (k + 1) (sum + x.cost.0) (state_at m)
   unfolding stepped_by
-  said_got (Retired r) next q =
+  retired_told r is {x} so {m} f small =
+      let d : Stepped = record { timing = state_at m; cost = x.cost; answer = x.answer } in
+      let after : state_at m ≡ after_of P (state_at l) (Retired r) = left f ∙ ap (after_of P (state_at l)) is in
+      let s : d ≡ stepped_of P (state_at l) r = rw (after, so) in
+      let here : read_at trace at ≡ got (Retired r) next = q ∙ ap (λ (y : Event). got y next) is in
       record {
-        quiet = λ h. absurd (omega arith);
-        room = λ h. telling_room g r next q;
-        one = λ h. rw (timing_held (after_of P (state_at l) (Retired r))) (telling_one g r next q);
+        going = going_cost b.going q is d s small;
+        telling = rw (after, so) (telling_one b.telling r next here);
       }
-  said_got Broken next q = said_quiet Broken next q refl
-  said_got ClearedAll next q = said_quiet ClearedAll next q refl
-  said_got ClearedUser next q = said_quiet ClearedUser next q refl
 
-  -- within the trace there is a record, and it is sound
-  pub turn_said : at < length trace → {x : Turned} → x ≡ turn_of P at l (read_at trace at) → {n : ℕ} → n ≡ reason_told P l (read_at trace at) → Said x n
-  turn_said here {x} p {n} = go (read_at trace at) refl p
-    where
-      go : (r : Read) → read_at trace at ≡ r → x ≡ turn_of P at l r → n ≡ reason_told P l r → Said x n
-      go End q p s = absurd (omega (arith, subst (Explained trace at) q (read_explained trace at)))
-      go (Bad refusal) q p s = absurd (telling_bad g refusal q)
-      go (Got e next) q p s = rw (p, s) (said_got e next q)
+  module _ {x : Explained} (h : told_for P l e ≡ Some x) where
+    pub both_room : (k * 4 + 4 ≤ length runs.costs) × (k < length runs.answers) × (k < length reasons)
+    both_room =
+        let t : Told P l e x = one_told P l e h in
+        let room = going_room b.going q t.is in
+        (room.0, room.1, telling_room b.telling t.r next (q ∙ ap (λ (y : Event). got y next) t.is))
+
+    pub both_told : {m : Lent} → m ≡ event_at_of P l e → x.cost.0 < 2 ^ 32
+        → Both P trace lent₀ reasons₀ t₀ (put_next runs k x.cost.0 (answer_number x.answer))
+        (put_at reasons k (reason_number x.reason ∷ [])) next (k + 1) (sum + x.cost.0) (state_at m)
+    both_told f small = let t : Told P l e x = one_told P l e h in retired_told t.r t.is t.so f small

@@ -7,9 +7,8 @@
 --   explained_at o l     ==  these two
 --   met_of p l r         ==  the retirement r as it is met on the lent numbers l, in the profile p
 --   explain_at_of p l r  ==  the same explained, with the lent numbers that the step leaves
---   reason_for p l e     ==  the number of the reason where the event e is a retirement; of any other 0, which nothing
---                            writes
-use Rattle.std.specs.Prelude.{ℕ}
+--   told_for p l e       ==  the event e explained on the lent numbers l, where it is a retirement
+use Rattle.std.specs.Prelude.{None, Option, Some}
 use Rattle.class_word.specs.Word.{clocks}
 use Rattle.cost.specs.Retiring.{Retiring}
 use Rattle.cost.specs.Cost.{cost_of}
@@ -23,7 +22,7 @@ use Rattle.step.specs.Boards.{board_of}
 use Rattle.in_place.specs.Lent.{Lent, state_at}
 use Rattle.in_place.specs.Retire.{event_at_of}
 use Rattle.reasons.specs.declared.explain.Explained.{Explained}
-use Rattle.reasons.specs.Reasons.{reason_number, reason_of, shared}
+use Rattle.reasons.specs.Reasons.{reason_of, shared}
 
 abbrev pub explained_of : Retiring → Explained
 explained_of r =
@@ -48,8 +47,8 @@ met_of p l r = retiring_of (board_of p) (state_of (state_at l)) r
 abbrev pub explain_at_of : Profile → Lent → Retirement → ExplainedAt
 explain_at_of p l r = explained_at (explained_of (met_of p l r)) (event_at_of p l (Retired r))
 
-abbrev pub reason_for : Profile → Lent → Event → ℕ
-reason_for p l (Retired r) = reason_number (reason_of (met_of p l r))
-reason_for p l Broken = 0
-reason_for p l ClearedAll = 0
-reason_for p l ClearedUser = 0
+abbrev pub told_for : Profile → Lent → Event → Option Explained
+told_for p l (Retired r) = Some (explained_of (met_of p l r))
+told_for p l Broken = None
+told_for p l ClearedAll = None
+told_for p l ClearedUser = None

@@ -20,7 +20,7 @@
 --   reason_of r                          ==  the reason of a retirement as it is met
 --   shared r                             ==  the registers that stand in the way: those that both "(use or def)" and
 --                                            "the head's def" have
-use Rattle.std.specs.Prelude.{ℕ, Bool, true, false, cond, List, [], ◌∷◌}
+use Rattle.std.specs.Prelude.{ℕ, Bool, true, false, cond, List, [], ◌∷◌, None, Option, Some}
 use Prim.Native.String.{String}
 use Rattle.std.specs.Int.Bits.{bit_and, bit_or}
 use Rattle.window.specs.declared.dispatch.Instruction.{Instruction}
@@ -34,8 +34,6 @@ use Rattle.window.specs.declared.dispatch.Rule.TheVariants.{
   NoLateCcr,
   OneMemory,
 }
-use Rattle.window.specs.declared.dispatch.Dispatch.{Dispatch}
-use Rattle.window.specs.declared.dispatch.Dispatch.TheVariants.{Passes, Fails}
 use Rattle.window.specs.declared.Window.{Window}
 use Rattle.window.specs.Dispatch.{failing}
 use Rattle.cost.specs.declared.branch.Answer.{Answer}
@@ -115,9 +113,9 @@ of_rule RegistersFree = Register
 of_rule NoLateCcr = Ccr
 of_rule OneMemory = Memory
 
-abbrev pub dispatched : Dispatch → Reason
-dispatched Passes = Paired
-dispatched (Fails rule) = of_rule rule
+abbrev pub dispatched : Option Rule → Reason
+dispatched None = Paired
+dispatched (Some rule) = of_rule rule
 
 abbrev pub other_reason : Instruction → Controls → Window → Reason
 other_reason i k w = cond w.opened (dispatched (failing i k w)) WindowShut

@@ -1,45 +1,31 @@
 // Document 02, R-1: why two instructions did not pair. One reason a retirement, and the run over a trace that writes
 // it.
 //
-// `reason` has the reasons and the reason of one retirement, `explain` a retirement in place with its reason, `running`
-// one record of a run. The run here is the trace run (`trace`) with a third lent run.
+// `reason` has the reasons and the reason of one retirement, `explain` a retirement in place with its reason, and any
+// event. The run here is the trace run (`trace`) with a third lent run.
 #![tactic(auto)]
 
 mod explain;
 mod reason;
-mod running;
 
-ghost use Rattle.std.specs.Prelude.{◌≡◌, cond, ◌<◌, ◌≤◌, ltb, length, set};
+ghost use Rattle.std.specs.Prelude.{◌≡◌, length};
 ghost use Rattle.in_place.specs.Lent.{lent, state_at};
 ghost use Rattle.records.specs.Trace.{read_trace};
-ghost use Rattle.records.specs.Judged.{Fits, FitsAnswers};
+ghost use Rattle.records.specs.Judged.{FitsAnswers};
 ghost use Rattle.refusals.specs.Runs.{runs};
-ghost use Rattle.trace.specs.Run.{ran_at, trace_outcome};
+ghost use Rattle.trace.specs.Run.{ran_at, trace_outcome, RoomFor};
 ghost use Rattle.reasons.specs.ExplainRun.{explain_outcome, explain_outcome_by, explain_trace_of};
 
 pub use explain::{Explained, explain_in_place};
 use in_place::{WINDOW_NUMBERS, WindowNumbers};
 use profile::Profile;
-pub use reason::{Reason, reason_number};
-use refusals::{Ran, Verdict};
+pub use reason::Reason;
+use refusals::Ran;
 use state::Oep060Timing;
-
-// What the turns of all records come to.
-#[derive(Clone, Copy)]
-struct Sums {
-    count: usize,
-    total: u64,
-}
-
-// A byte of the retirement of this index: its answer or its reason.
-fn put_byte(bytes: &mut [u8], index: usize, byte: u8)
-    requires { index < length bytes.old }
-    ensures { bytes.new ≡ set bytes.old index byte }
-{
-    bytes[index] = byte;
-}
+use trace::Sums;
 
 // Runs a trace whose records are all sound and whose three lent runs have room, on lent numbers.
+// Stays beside `trace`'s run: one loop for both would take a closure over three lent runs and the state, no shorter.
 fn explain_records(
     trace: &[u8],
     costs: &mut [u8],
@@ -50,9 +36,7 @@ fn explain_records(
     window: &mut WindowNumbers,
     profile: Profile,
 ) -> Sums
-    requires trace_len_bound { length trace.now ≤ 16777216 }
-    requires fits { Fits 0 (length costs.old) (read_trace trace.now) }
-    requires fits_answers { FitsAnswers 0 (length answers.old) (read_trace trace.now) }
+    requires room { RoomFor trace.now (runs costs.old answers.old) }
     requires fits_reasons { FitsAnswers 0 (length reasons.old) (read_trace trace.now) }
     ensures { explain_outcome (trace_outcome (ran_at result.count result.total (state_at (lent tags.new
         state.new window.new))) (runs costs.new answers.new))
@@ -61,17 +45,14 @@ fn explain_records(
         reasons.old (state_at (lent tags.old state.old window.old)) }
 {
     in_place::see_window(window);
-    let mut at: usize = 0;
     let mut count: usize = 0;
     let mut total: u64 = 0;
-    while at < trace.len() {
-        let turn = running::explain_record(trace, tags, state, window, profile, at);
-        at = turn.next;
-        total += turn.cost.0 as u64;
-        if 0 < turn.count {
-            little_endian::put_u32(costs, count * 4, turn.cost.0);
-            put_byte(answers, count, turn.answer);
-            put_byte(reasons, count, turn.reason);
+    for (_, event) in records::events_of(trace) {
+        if let Some(told) = explain::explain_event(tags, state, window, profile, event) {
+            total += told.cost.0 as u64;
+            little_endian::put_u32(costs, count * 4, told.cost.0);
+            answers[count] = u8::from(told.answer);
+            reasons[count] = u8::from(told.reason);
             count += 1;
         }
     }
@@ -87,9 +68,7 @@ fn explain_all(
     timing: Oep060Timing,
     profile: Profile,
 ) -> Ran
-    requires trace_len_bound { length trace.now ≤ 16777216 }
-    requires fits { Fits 0 (length costs.old) (read_trace trace.now) }
-    requires fits_answers { FitsAnswers 0 (length answers.old) (read_trace trace.now) }
+    requires room { RoomFor trace.now (runs costs.old answers.old) }
     requires fits_reasons { FitsAnswers 0 (length reasons.old) (read_trace trace.now) }
     ensures { explain_outcome (trace_outcome result (runs costs.new answers.new))
         reasons.new
@@ -112,20 +91,11 @@ fn explain_all(
     );
     let last = in_place::timing_at(tags, state, window);
     Ran {
-        verdict: Verdict::Accepted,
+        verdict: Ok(()),
         count: sums.count,
         total: sums.total,
         timing: last,
     }
-}
-
-fn fewer(a: usize, b: usize) -> usize
-    ensures { result ≡ cond (ltb a b) a b }
-{
-    if a < b {
-        return a;
-    }
-    b
 }
 
 // Runs a trace and says why: all is checked first, and then 4 bytes, 1 byte and 1 byte are written for each retirement.
@@ -143,10 +113,9 @@ pub fn explain_trace(
         ≡ explain_trace_of profile trace.now (runs costs.old answers.old)
         reasons.old timing }
 {
-    let places = fewer(answers.len(), reasons.len());
-    let verdict = records::judge_trace(trace, costs.len(), places);
-    match verdict {
-        Verdict::Refused(refusal) => refusals::refused(refusal, timing),
-        Verdict::Accepted => explain_all(trace, costs, answers, reasons, timing, profile),
+    let places = answers.len().min(reasons.len());
+    match records::judge_trace(trace, costs.len(), places) {
+        Err(refusal) => refusals::refused(refusal, timing),
+        Ok(()) => explain_all(trace, costs, answers, reasons, timing, profile),
     }
 }

@@ -2,72 +2,54 @@
 ghost use Rattle.std.specs.Prelude.{◌≡◌};
 ghost use Rattle.std.specs.Int.Bits.{bit_and, bit_or};
 ghost use Rattle.cost.specs.Retiring.{point_of};
-ghost use Rattle.reasons.specs.Reasons.{reason_number, of_rule, dispatched, other_reason};
+ghost use Rattle.reasons.specs.Reasons.{reason_number, of_rule, other_reason};
 ghost use Rattle.reasons.specs.Reasons.{asked_reason, branch_reason, reason_by};
 
 use class_word::F_BRANCH;
 use cost::Answer;
-use window::{Controls, Dispatch, Instruction, Rule, Window};
+use window::{Controls, Instruction, Rule, Window};
 
 // Why a retirement costs what it costs; first what any but branches and flow can have, then flow, then branches.
-#[derive(Clone, Copy)]
+#[derive(Clone, Copy, PartialEq, Eq)]
 pub enum Reason {
-    Paired,
-    WindowShut,
-    EssOff,
-    NotCached,
-    NotSimple,
-    Register,
-    Ccr,
-    Memory,
-    Refill,
-    Folded,
-    Alone,
-    NotTaken,
-    Mispredicted,
-    Static,
+    Paired = 0,
+    WindowShut = 1,
+    EssOff = 2,
+    NotCached = 3,
+    NotSimple = 4,
+    Register = 5,
+    Ccr = 6,
+    Memory = 7,
+    Refill = 8,
+    Folded = 9,
+    Alone = 10,
+    NotTaken = 11,
+    Mispredicted = 12,
+    Static = 13,
 }
 
-pub fn reason_number(reason: Reason) -> u8
-    ensures { result ≡ reason_number reason }
-{
-    match reason {
-        Reason::Paired => 0,
-        Reason::WindowShut => 1,
-        Reason::EssOff => 2,
-        Reason::NotCached => 3,
-        Reason::NotSimple => 4,
-        Reason::Register => 5,
-        Reason::Ccr => 6,
-        Reason::Memory => 7,
-        Reason::Refill => 8,
-        Reason::Folded => 9,
-        Reason::Alone => 10,
-        Reason::NotTaken => 11,
-        Reason::Mispredicted => 12,
-        Reason::Static => 13,
+// The number of a reason.
+impl From<Reason> for u8 {
+    ghost from_gives = { λ reason number. number ≡ reason_number reason };
+
+    fn from(reason: Reason) -> u8 {
+        reason as u8
     }
 }
 
-fn of_rule(rule: Rule) -> Reason
-    ensures { result ≡ of_rule rule }
-{
-    match rule {
-        Rule::EssOn => Reason::EssOff,
-        Rule::BothCached => Reason::NotCached,
-        Rule::Simple => Reason::NotSimple,
-        Rule::RegistersFree => Reason::Register,
-        Rule::NoLateCcr => Reason::Ccr,
-        Rule::OneMemory => Reason::Memory,
-    }
-}
+// The reason that a rule of the dispatch test failed.
+impl From<Rule> for Reason {
+    ghost from_gives = { λ rule reason. reason ≡ of_rule rule };
 
-fn dispatched(found: Dispatch) -> Reason
-    ensures { result ≡ dispatched found }
-{
-    match found {
-        Dispatch::Passes => Reason::Paired,
-        Dispatch::Fails(rule) => of_rule(rule),
+    fn from(rule: Rule) -> Reason {
+        match rule {
+            Rule::EssOn => Reason::EssOff,
+            Rule::BothCached => Reason::NotCached,
+            Rule::Simple => Reason::NotSimple,
+            Rule::RegistersFree => Reason::Register,
+            Rule::NoLateCcr => Reason::Ccr,
+            Rule::OneMemory => Reason::Memory,
+        }
     }
 }
 
@@ -75,30 +57,25 @@ fn dispatched(found: Dispatch) -> Reason
 fn other_reason(i: Instruction, k: Controls, w: Window) -> Reason
     ensures { result ≡ other_reason i k w }
 {
-    if w.opened {
-        let found = window::failing(i, k, w);
-        return dispatched(found);
+    if !w.opened {
+        return Reason::WindowShut;
     }
-    Reason::WindowShut
+    match window::failing(i, k, w) {
+        None => Reason::Paired,
+        Some(rule) => Reason::from(rule),
+    }
 }
 
 // A branch of which the cache was asked.
 fn asked_reason(predicted: bool, taken: bool, opened: bool) -> Reason
     ensures { result ≡ asked_reason predicted taken opened }
 {
-    if predicted {
-        if taken {
-            if opened {
-                return Reason::Folded;
-            }
-            return Reason::Alone;
-        }
-        return Reason::Mispredicted;
+    match (predicted, taken, opened) {
+        (true, true, true) => Reason::Folded,
+        (true, true, false) => Reason::Alone,
+        (false, false, _) => Reason::NotTaken,
+        (true, false, _) | (false, true, _) => Reason::Mispredicted,
     }
-    if taken {
-        return Reason::Mispredicted;
-    }
-    Reason::NotTaken
 }
 
 // A miss counts as predicted not taken.
@@ -107,8 +84,7 @@ fn branch_reason(taken: bool, opened: bool, answer: Answer) -> Reason
 {
     match answer {
         Answer::NotConsulted => Reason::Static,
-        Answer::Miss => asked_reason(false, taken, opened),
-        Answer::PredictedNotTaken => asked_reason(false, taken, opened),
+        Answer::Miss | Answer::PredictedNotTaken => asked_reason(false, taken, opened),
         Answer::PredictedTaken => asked_reason(true, taken, opened),
     }
 }

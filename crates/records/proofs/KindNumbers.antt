@@ -5,17 +5,17 @@ use mathlib.Core.Path.{◌≡◌, ap}
 use native.Mathlib.Omega.{arith}
 use lib.Dec.{eqb}
 use borrow.Author.Tests.{eqb-true, eqb-false, ne_eqb}
+use Rattle.std.specs.Prelude.{Result, Ok, Err}
+use Rattle.records.specs.declared.kinds.UnknownKind.{UnknownKind}
 use Rattle.records.specs.declared.kinds.Kind.{Kind}
 use Rattle.records.specs.declared.kinds.Kind.TheVariants.{Retirement, Break, ClearAll, ClearUser}
-use Rattle.records.specs.declared.kinds.KindRead.{KindRead}
-use Rattle.records.specs.declared.kinds.KindRead.TheVariants.{Known, Unknown}
 use Rattle.records.specs.Kinds.{kind_number, kind_of}
 use Rattle.records.proofs.Choices.{by_test}
 
 -- what a kind that was read says of its number
-abbrev pub Says : ℕ → KindRead → Type 0
-Says n (Known kind) = n ≡ kind_number kind
-Says n Unknown = (1 ≤ n) × (n ≤ 4) → ⊥
+abbrev pub Says : ℕ → Result Kind UnknownKind → Type 0
+Says n (Ok kind) = n ≡ kind_number kind
+Says n (Err none) = (1 ≤ n) × (n ≤ 4) → ⊥
 
 pub kind_says : (n : ℕ) → Says n (kind_of n)
 unfolding kind_of
@@ -27,7 +27,7 @@ kind_says n =
     (λ d h. omega (arith, eqb-false n 1 a, eqb-false n 2 b, eqb-false n 3 c, eqb-false n 4 d)))))
 
 -- each kind is found by its number
-pub kind_found : (kind : Kind) {n : ℕ} → n ≡ kind_number kind → kind_of n ≡ Known kind
+pub kind_found : (kind : Kind) {n : ℕ} → n ≡ kind_number kind → kind_of n ≡ Ok kind
 unfolding kind_of
 kind_found Retirement e = ap kind_of e
 kind_found Break e = ap kind_of e
@@ -35,7 +35,7 @@ kind_found ClearAll e = ap kind_of e
 kind_found ClearUser e = ap kind_of e
 
 -- and no other number
-pub kind_missing : (n : ℕ) → ((1 ≤ n) × (n ≤ 4) → ⊥) → kind_of n ≡ Unknown
+pub kind_missing : (n : ℕ) → ((1 ≤ n) × (n ≤ 4) → ⊥) → kind_of n ≡ Err (record {})
 unfolding kind_of
 kind_missing n h =
     simp (

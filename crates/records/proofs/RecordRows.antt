@@ -8,19 +8,17 @@ use native.Mathlib.Omega.{arith}
 use lib.Dec.{eqb, ltb}
 use lib.ListN.{length}
 use borrow.Author.Tests.{lt-ltb, ltb-true, ltb-false, eqb-true, eqb-false, not-true, not-false}
+use Rattle.std.specs.Prelude.{Some, None, Result, Ok, Err}
+use Rattle.refusals.specs.Verdict.{Verdict}
+use Rattle.records.specs.declared.kinds.UnknownKind.{UnknownKind}
 use Rattle.state.specs.declared.Event.{Event}
 use Rattle.refusals.specs.declared.Refusal.{Refusal}
 use Rattle.refusals.specs.declared.Refusal.TheVariants.{Remainder, WrongKind, WrongLength, Cut, Flag}
-use Rattle.refusals.specs.declared.Verdict.{Verdict}
 use Rattle.records.specs.declared.kinds.Kind.{Kind}
 use Rattle.records.specs.declared.kinds.Kind.TheVariants.{Retirement, Break, ClearAll, ClearUser}
-use Rattle.records.specs.declared.kinds.KindRead.{KindRead}
-use Rattle.records.specs.declared.kinds.KindRead.TheVariants.{Known, Unknown}
-use Rattle.records.specs.declared.record.Read.{Read}
-use Rattle.records.specs.declared.record.Read.TheVariants.{Got, Bad, End}
 use Rattle.records.specs.Kinds.{payload_length, kind_of}
 use Rattle.records.specs.Faults.{next_place, high_flag, fault_at}
-use Rattle.records.specs.Record.{remaining, event_at, taken_by, record_at, body_at, read_at}
+use Rattle.records.specs.Record.{Read, got, remaining, event_at, taken_by, record_at, body_at, read_at}
 use Rattle.records.specs.RecordTable.{Headed, Faulty, row2, row3, row4, row5, row6, Whole, whole}
 use Rattle.records.proofs.Choices.{by_test}
 use Rattle.records.proofs.KindNumbers.{Says, kind_says, kind_missing}
@@ -32,12 +30,12 @@ use Rattle.refusals.proofs.Told.{Told}
 module _ (trace : List ℕ) (at : ℕ) where
   -- then
   abbrev ReadBad : Refusal → Type 0
-  ReadBad refusal = read_at trace at ≡ Bad refusal
+  ReadBad refusal = read_at trace at ≡ Err refusal
 
   said : (refusal : Refusal) → place_of refusal ≡ at → ReadBad refusal → Told (number_of refusal) at ReadBad
   said refusal p q = record { refusal = refusal; number = refl; place = p; so = q }
 
-  pub faulty_then : {n : ℕ} → Faulty trace at n → Told n at (λ refusal. read_at trace at ≡ Bad refusal)
+  pub faulty_then : {n : ℕ} → Faulty trace at n → Told n at (λ refusal. read_at trace at ≡ Err refusal)
   faulty_then (row2 a b) = said (Remainder at) refl (read_remainder trace at a b)
   faulty_then (row3 n h) = said (WrongKind at) refl (read_body trace at h ∙ ap (body_at trace at) (kind_missing (kind_at trace at) n))
   faulty_then (row4 kind n h) = said (WrongLength at) refl (read_kind trace at kind h.0 h.1 ∙ record_length trace at kind n)
@@ -45,14 +43,14 @@ module _ (trace : List ℕ) (at : ℕ) where
   faulty_then (row6 f h e w) =
       said (Flag at) refl (read_kind trace at Retirement h.0 h.1 ∙ record_flag trace at Retirement e (omega arith) (lt-ltb _ _ f))
 
-  pub whole_then : {e : Event} {next : ℕ} → Whole trace at e next → read_at trace at ≡ Got e next
+  pub whole_then : {e : Event} {next : ℕ} → Whole trace at e next → read_at trace at ≡ got e next
   whole_then (whole kind h e w f) = read_kind trace at kind h.0 h.1 ∙ record_whole trace at kind e (omega arith) f
 
   -- only then: what was read says what stands there
   abbrev pub Explained : Read → Type 0
-  Explained End = remaining trace at ≡ 0
-  Explained (Bad refusal) = Faulty trace at (number_of refusal) × (place_of refusal ≡ at)
-  Explained (Got e next) = Whole trace at e next
+  Explained (Ok None) = remaining trace at ≡ 0
+  Explained (Err refusal) = Faulty trace at (number_of refusal) × (place_of refusal ≡ at)
+  Explained (Ok (Some (e, next))) = Whole trace at e next
 
   flagged : (kind : Kind) → Headed trace at kind → length_at trace at ≡ payload_length kind → 4 + payload_length kind ≤ remaining trace at → high_flag trace at kind ≡ true
       → Faulty trace at 6
@@ -76,9 +74,9 @@ module _ (trace : List ℕ) (at : ℕ) where
       let w : 4 + payload_length kind ≤ remaining trace at = omega arith in
       by_test Said (high_flag trace at kind) _ _ (λ f. (flagged kind h e w f, refl)) (whole kind h e w)))
 
-  body_explained : 4 ≤ remaining trace at → (kind : KindRead) → Says (kind_at trace at) kind → Explained (body_at trace at kind)
-  body_explained h Unknown n = (row3 n h, refl)
-  body_explained h (Known kind) e = record_explained kind (h, e)
+  body_explained : 4 ≤ remaining trace at → (kind : Result Kind UnknownKind) → Says (kind_at trace at) kind → Explained (body_at trace at kind)
+  body_explained h (Err none) n = (row3 n h, refl)
+  body_explained h (Ok kind) e = record_explained kind (h, e)
 
   pub read_explained : Explained (read_at trace at)
   unfolding read_at
@@ -89,8 +87,8 @@ module _ (trace : List ℕ) (at : ℕ) where
       (λ l. let few : remaining trace at < 4 = ltb-true _ _ l in (row2 (omega (arith, eqb-false (remaining trace at) 0 z)) (omega arith), refl))
       (λ l. body_explained (ltb-false _ _ l) (kind_of (kind_at trace at)) (kind_says (kind_at trace at))))
 
-  pub faulty_only : {refusal : Refusal} → read_at trace at ≡ Bad refusal → Faulty trace at (number_of refusal) × (place_of refusal ≡ at)
+  pub faulty_only : {refusal : Refusal} → read_at trace at ≡ Err refusal → Faulty trace at (number_of refusal) × (place_of refusal ≡ at)
   faulty_only q = subst Explained q read_explained
 
-  pub whole_only : {e : Event} {next : ℕ} → read_at trace at ≡ Got e next → Whole trace at e next
+  pub whole_only : {e : Event} {next : ℕ} → read_at trace at ≡ got e next → Whole trace at e next
   whole_only q = subst Explained q read_explained

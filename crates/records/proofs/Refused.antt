@@ -7,12 +7,11 @@ use native.Mathlib.Omega.{arith}
 use lib.Dec.{ltb}
 use lib.ListN.{length}
 use borrow.Author.Tests.{lt-ltb, le-ltb, ltb-true, ltb-false}
+use Rattle.std.specs.Prelude.{Some, None, Ok, Err}
+use Rattle.refusals.specs.Verdict.{accepted}
 use Rattle.state.specs.declared.Event.{Event}
 use Rattle.refusals.specs.declared.Refusal.{Refusal}
-use Rattle.refusals.specs.declared.Verdict.TheVariants.{Accepted, Refused}
-use Rattle.records.specs.declared.record.Read.{Read}
-use Rattle.records.specs.declared.record.Read.TheVariants.{Got, Bad, End}
-use Rattle.records.specs.Record.{remaining, read_at}
+use Rattle.records.specs.Record.{Read, got, remaining, read_at}
 use Rattle.records.specs.Trace.{Trace, events, refused, ahead, read_from, read_trace}
 use Rattle.refusals.specs.Runs.{Rooms}
 use Rattle.records.specs.Judged.{short, with_room, judged_trace, verdict_of, Fits, FitsAnswers}
@@ -57,7 +56,7 @@ module _ (trace : List ℕ) where
   pub sound_then : {es : List Event} → Reached trace (length trace) es → read_trace trace ≡ events es
   sound_then {es} h = reached_reads h ∙ ap (before es) (from_end trace (length trace) (read_end trace (length trace) (omega arith))) ∙ before_none es
 
-  faulty_reads : {at : ℕ} {es : List Event} {refusal : Refusal} → Reached trace at es → read_at trace at ≡ Bad refusal → read_trace trace ≡ refused refusal
+  faulty_reads : {at : ℕ} {es : List Event} {refusal : Refusal} → Reached trace at es → read_at trace at ≡ Err refusal → read_trace trace ≡ refused refusal
   faulty_reads {at} {es} {refusal} h f = reached_reads h ∙ ap (before es) (from_bad trace at refusal f) ∙ before_refused es refusal
 
   module _ (room : Rooms) where
@@ -76,11 +75,11 @@ module _ (trace : List ℕ) where
         rw append-nil (subst (λ (n : ℕ). Reached trace n es) l h)
 
     turn : {at : ℕ} {es : List Event} → Reached trace at es
-        → ((e : Event) (next : ℕ) → read_at trace at ≡ Got e next → Ends (es ++ e ∷ []) (read_from trace next))
+        → ((e : Event) (next : ℕ) → read_at trace at ≡ got e next → Ends (es ++ e ∷ []) (read_from trace next))
         → (r : Read) → read_at trace at ≡ r → Ends es (read_from trace at)
-    turn {at} {es} h rest End q = subst (Ends es) (sym (from_end trace at q)) (ends_here h (subst (Explained trace at) q (read_explained trace at)))
-    turn {at} {es} h rest (Bad refusal) q = subst (Ends es) (sym (from_bad trace at refusal q)) (λ size. let f = faulty_only trace at q in subst (Refuses trace room (number_of refusal)) (sym f.1) (rows2to6 size h f.0))
-    turn {at} {es} h rest (Got e next) q = subst (Ends es) (sym (from_got trace at e next q)) (ends_ahead es e (read_from trace next) (rest e next q))
+    turn {at} {es} h rest (Ok None) q = subst (Ends es) (sym (from_end trace at q)) (ends_here h (subst (Explained trace at) q (read_explained trace at)))
+    turn {at} {es} h rest (Err refusal) q = subst (Ends es) (sym (from_bad trace at refusal q)) (λ size. let f = faulty_only trace at q in subst (Refuses trace room (number_of refusal)) (sym f.1) (rows2to6 size h f.0))
+    turn {at} {es} h rest (Ok (Some (e, next))) q = subst (Ends es) (sym (from_got trace at e next q)) (ends_ahead es e (read_from trace next) (rest e next q))
 
     walk : (most : ℕ) {at : ℕ} {es : List Event} → Reached trace at es → remaining trace at ≤ most → Ends es (read_from trace at)
     walk zero {at} {es} h l = subst (Ends es) (sym (from_end trace at (read_end trace at (omega arith)))) (ends_here h (omega arith))
@@ -133,10 +132,10 @@ module _ (trace : List ℕ) where
     accepts_only q = subst Judged q judged_so
 
     -- what a verdict tells of the trace
-    pub refused_so : {refusal : Refusal} → verdict_of (judged_trace trace room) ≡ Refused refusal → judged_trace trace room ≡ refused refusal
+    pub refused_so : {refusal : Refusal} → verdict_of (judged_trace trace room) ≡ Err refusal → judged_trace trace room ≡ refused refusal
     refused_so {refusal} = go (judged_trace trace room)
       where
-        go : (x : Trace) → verdict_of x ≡ Refused refusal → x ≡ refused refusal
+        go : (x : Trace) → verdict_of x ≡ Err refusal → x ≡ refused refusal
         go (events es) h = cc
         go (refused other) h = cc
 
@@ -146,10 +145,10 @@ module _ (trace : List ℕ) where
       pub tells : FitsAnswers 0 room.answers (read_trace trace)
       pub same : judged_trace trace room ≡ read_trace trace
 
-    pub taken_so : verdict_of (judged_trace trace room) ≡ Accepted → Taken
+    pub taken_so : verdict_of (judged_trace trace room) ≡ accepted → Taken
     taken_so = go (judged_trace trace room) refl
       where
-        go : (x : Trace) → judged_trace trace room ≡ x → verdict_of x ≡ Accepted → Taken
+        go : (x : Trace) → judged_trace trace room ≡ x → verdict_of x ≡ accepted → Taken
         go (events es) q h =
             let a = accepts_only q in
             let s = sound_then a.records in

@@ -5,18 +5,17 @@ use mathlib.Core.Path.{◌≡◌, refl, sym, ap, ◌∙◌}
 use mathlib.Core.List.{List, [], ◌∷◌}
 use native.Mathlib.Omega.{arith}
 use lib.ListN.{length}
+use Rattle.std.specs.Prelude.{Some, None, Ok, Err}
 use Rattle.state.specs.declared.Event.{Event}
 use Rattle.state.specs.declared.Event.TheVariants.{Retired, Broken, ClearedAll, ClearedUser}
 use Rattle.refusals.specs.declared.Refusal.{Refusal}
-use Rattle.records.specs.declared.record.Read.{Read}
-use Rattle.records.specs.declared.record.Read.TheVariants.{Got, Bad, End}
-use Rattle.records.specs.Record.{remaining, read_at}
+use Rattle.records.specs.Record.{Read, got, ended, remaining, read_at}
 use Rattle.records.specs.Trace.{Trace, events, refused, ahead, go_on, read_in, read_from}
 use Rattle.records.proofs.Reading.{read_end, got_ends}
 use Rattle.state.specs.Events.{count_of}
 
 -- a record that was read takes 4 bytes, and 16 more if it is a retirement, and ends within the trace
-pub got_within : (trace : List ℕ) (at : ℕ) (e : Event) (next : ℕ) → read_at trace at ≡ Got e next
+pub got_within : (trace : List ℕ) (at : ℕ) (e : Event) (next : ℕ) → read_at trace at ≡ got e next
     → (at + 4 + 16 * count_of (e ∷ []) ≤ next) × (next ≤ length trace)
 got_within trace at (Retired r) next q = let w = got_ends trace at (Retired r) next q in (omega (arith, w.0), w.1)
 got_within trace at Broken next q = let w = got_ends trace at Broken next q in (omega (arith, w.0), w.1)
@@ -26,9 +25,9 @@ got_within trace at ClearedUser next q = let w = got_ends trace at ClearedUser n
 -- what goes on alike from every later place is alike
 alike : (trace : List ℕ) (at : ℕ) (f g : ℕ → Trace) → ((next : ℕ) → at + 4 ≤ next → f next ≡ g next) → (r : Read) → read_at trace at ≡ r
     → go_on f r ≡ go_on g r
-alike trace at f g h End q = refl
-alike trace at f g h (Bad refusal) q = refl
-alike trace at f g h (Got e next) q = let w = got_within trace at e next q in ap (ahead e) (h next (omega arith))
+alike trace at f g h (Ok None) q = refl
+alike trace at f g h (Err refusal) q = refl
+alike trace at f g h (Ok (Some (e, next))) q = let w = got_within trace at e next q in ap (ahead e) (h next (omega arith))
 
 -- any number of records that is large enough gives the same
 enough : (f g : ℕ) (trace : List ℕ) (at : ℕ) → length trace ≤ at + f → length trace ≤ at + g → read_in f trace at ≡ read_in g trace at
@@ -51,11 +50,11 @@ from_place trace at = go (remaining trace at) refl
         (λ next h. enough f (remaining trace next) trace next (omega arith) (omega arith)) (read_at trace at) refl
 
 module _ (trace : List ℕ) (at : ℕ) where
-  pub from_end : read_at trace at ≡ End → read_from trace at ≡ events []
+  pub from_end : read_at trace at ≡ ended → read_from trace at ≡ events []
   from_end q = from_place trace at ∙ ap (go_on (read_from trace)) q
 
-  pub from_bad : (refusal : Refusal) → read_at trace at ≡ Bad refusal → read_from trace at ≡ refused refusal
+  pub from_bad : (refusal : Refusal) → read_at trace at ≡ Err refusal → read_from trace at ≡ refused refusal
   from_bad refusal q = from_place trace at ∙ ap (go_on (read_from trace)) q
 
-  pub from_got : (e : Event) (next : ℕ) → read_at trace at ≡ Got e next → read_from trace at ≡ ahead e (read_from trace next)
+  pub from_got : (e : Event) (next : ℕ) → read_at trace at ≡ got e next → read_from trace at ≡ ahead e (read_from trace next)
   from_got e next q = from_place trace at ∙ ap (go_on (read_from trace)) q

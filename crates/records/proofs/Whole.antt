@@ -14,9 +14,8 @@ use Rattle.little_endian.proofs.Numbers.{number_small, number_halves}
 use Rattle.state.specs.declared.Event.TheVariants.{Retired}
 use Rattle.refusals.specs.declared.Refusal.TheVariants.{Flag}
 use Rattle.records.specs.declared.kinds.Kind.TheVariants.{Retirement}
-use Rattle.records.specs.declared.record.Read.TheVariants.{Got}
 use Rattle.records.specs.Faults.{high_flag}
-use Rattle.records.specs.Record.{whole_at, sound_at, read_at, Unrefused}
+use Rattle.records.specs.Record.{got, whole_at, sound_at, read_at, Unrefused}
 use Rattle.records.specs.Layout.{length_at, kind_at, retirement_at}
 use Rattle.records.proofs.Reading.{read_kind, record_flag, record_whole}
 
@@ -61,24 +60,24 @@ module _ (trace : List ℕ) (at : ℕ) where
       go false e = whole_not (λ (w : Wholly). eqb-false (number_at 4 trace at) 65552 e (omega (arith, number_halves trace at, w.long, w.kind)))
 
   -- so what is read there is the retirement, where its flags are low
-  low_got : Wholly → high_flag trace at Retirement ≡ false → read_at trace at ≡ Got (Retired (retirement_at trace at)) (at + 20)
+  low_got : Wholly → high_flag trace at Retirement ≡ false → read_at trace at ≡ got (Retired (retirement_at trace at)) (at + 20)
   low_got w low =
       let room = w.there in
       read_kind trace at Retirement (omega arith) w.kind ∙ record_whole trace at Retirement w.long (omega arith) low
-      ∙ ap (Got (Retired (retirement_at trace at))) (omega arith)
+      ∙ ap (got (Retired (retirement_at trace at))) (omega arith)
 
-  pub sound_got : sound_at trace at ≡ true → read_at trace at ≡ Got (Retired (retirement_at trace at)) (at + 20)
+  pub sound_got : sound_at trace at ≡ true → read_at trace at ≡ got (Retired (retirement_at trace at)) (at + 20)
   sound_got h =
       let low = not (high_flag trace at Retirement) in
       low_got (wholly (and_left (whole_at trace at) low h)) (not-true (high_flag trace at Retirement) (and_right (whole_at trace at) low h))
 
   -- and where no refusal is read there
-  pub whole_got : whole_at trace at ≡ true → Unrefused trace at → read_at trace at ≡ Got (Retired (retirement_at trace at)) (at + 20)
+  pub whole_got : whole_at trace at ≡ true → Unrefused trace at → read_at trace at ≡ got (Retired (retirement_at trace at)) (at + 20)
   whole_got h taken = go (high_flag trace at Retirement) refl
     where
       w : Wholly
       w = wholly h
 
-      go : (t : Bool) → high_flag trace at Retirement ≡ t → read_at trace at ≡ Got (Retired (retirement_at trace at)) (at + 20)
+      go : (t : Bool) → high_flag trace at Retirement ≡ t → read_at trace at ≡ got (Retired (retirement_at trace at)) (at + 20)
       go true e = let room = w.there in absurd (taken (Flag at) (read_kind trace at Retirement (omega arith) w.kind ∙ record_flag trace at Retirement w.long (omega arith) e))
       go false e = low_got w e

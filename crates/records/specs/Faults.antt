@@ -7,11 +7,10 @@
 --   fault_at trace at kind   ==  refusal 4, 5 or 6, tried in this order; else the record is taken
 --
 -- The place of each of these refusals is the "record start", so each carries `at`.
-use Rattle.std.specs.Prelude.{ℕ, ◌+◌, Bool, false, not, List, eqb, ltb, length}
+use Rattle.std.specs.Prelude.{ℕ, ◌+◌, Bool, false, not, List, Err, eqb, ltb, length}
 use Rattle.bits.specs.Rows.{otherwise, ◌⇒◌⨾◌, first}
 use Rattle.refusals.specs.declared.Refusal.TheVariants.{WrongLength, Cut, Flag}
-use Rattle.refusals.specs.declared.Verdict.{Verdict}
-use Rattle.refusals.specs.declared.Verdict.TheVariants.{Accepted, Refused}
+use Rattle.refusals.specs.Verdict.{Verdict, accepted}
 use Rattle.records.specs.declared.kinds.Kind.{Kind}
 use Rattle.records.specs.declared.kinds.Kind.TheVariants as K
 use Rattle.records.specs.Kinds.{payload_length}
@@ -30,7 +29,7 @@ high_flag trace at K.ClearUser = false
 unfoldable pub fault_at : List ℕ → ℕ → Kind → Verdict
 fault_at trace at kind =
     first
-    (not (eqb (length_at trace at) (payload_length kind)) ⇒ Refused (WrongLength at) ⨾
-    ltb (length trace) (next_place at kind) ⇒ Refused (Cut at) ⨾
-    high_flag trace at kind ⇒ Refused (Flag at) ⨾
-    otherwise Accepted)
+    (not (eqb (length_at trace at) (payload_length kind)) ⇒ Err (WrongLength at) ⨾
+    ltb (length trace) (next_place at kind) ⇒ Err (Cut at) ⨾
+    high_flag trace at kind ⇒ Err (Flag at) ⨾
+    otherwise accepted)

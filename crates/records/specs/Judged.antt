@@ -10,10 +10,9 @@
 --   verdict_of said                ==  the verdict by what the trace said
 --   Fits written room said         ==  the rest of a trace has room behind so many costs that are written already
 --   FitsAnswers written room said  ==  the same of the answers
-use Rattle.std.specs.Prelude.{ℕ, ◌+◌, ◌*◌, ◌≤◌, Bool, cond, ◌||◌, List, ltb, length}
+use Rattle.std.specs.Prelude.{ℕ, ◌+◌, ◌*◌, ◌≤◌, Bool, cond, ◌||◌, List, Err, ltb, length}
 use Rattle.refusals.specs.declared.Refusal.TheVariants.{Oversized, Room}
-use Rattle.refusals.specs.declared.Verdict.{Verdict}
-use Rattle.refusals.specs.declared.Verdict.TheVariants.{Accepted, Refused}
+use Rattle.refusals.specs.Verdict.{Verdict, accepted}
 use Rattle.refusals.specs.Runs.{Rooms}
 use Rattle.records.specs.Trace.{Trace, events, refused, read_trace}
 use Rattle.state.specs.Events.{count_of}
@@ -30,8 +29,8 @@ judged_trace trace room = cond (ltb 16777216 (length trace)) (refused Oversized)
     (length trace) room (read_trace trace))
 
 abbrev pub verdict_of : Trace → Verdict
-verdict_of (events es) = Accepted
-verdict_of (refused refusal) = Refused refusal
+verdict_of (events es) = accepted
+verdict_of (refused refusal) = Err refusal
 
 -- a refused trace is given no room
 abbrev pub Fits : ℕ → ℕ → Trace → Type 0

@@ -5,14 +5,13 @@
 --   payload_length kind  ==  how many bytes the payload of a kind has
 --                            "retirement, 16 bytes"; "length 0"
 --   kinds                ==  the kinds of a trace's records, all of them
---   kind_in some n       ==  the kind among some whose number is n; Unknown if none has it
---   kind_of n            ==  the kind whose number is n; Unknown if none has it
+--   kind_in some n       ==  the kind among some whose number is n; an error if none has it
+--   kind_of n            ==  the kind whose number is n; an error if none has it
 --                            "kind not 1 to 4"
-use Rattle.std.specs.Prelude.{ℕ, cond, List, [], ◌∷◌, eqb}
+use Rattle.std.specs.Prelude.{ℕ, cond, List, [], ◌∷◌, Result, Ok, Err, eqb}
 use Rattle.records.specs.declared.kinds.Kind.{Kind}
 use Rattle.records.specs.declared.kinds.Kind.TheVariants.{Retirement, Break, ClearAll, ClearUser}
-use Rattle.records.specs.declared.kinds.KindRead.{KindRead}
-use Rattle.records.specs.declared.kinds.KindRead.TheVariants.{Known, Unknown}
+use Rattle.records.specs.declared.kinds.UnknownKind.{UnknownKind}
 
 abbrev pub kind_number : Kind → ℕ
 kind_number Retirement = 1
@@ -29,9 +28,9 @@ payload_length ClearUser = 0
 abbrev pub kinds : List Kind
 kinds = Retirement ∷ Break ∷ ClearAll ∷ ClearUser ∷ []
 
-abbrev pub kind_in : List Kind → ℕ → KindRead
-kind_in [] n = Unknown
-kind_in (kind ∷ others) n = cond (eqb n (kind_number kind)) (Known kind) (kind_in others n)
+abbrev pub kind_in : List Kind → ℕ → Result Kind UnknownKind
+kind_in [] n = Err (record {})
+kind_in (kind ∷ others) n = cond (eqb n (kind_number kind)) (Ok kind) (kind_in others n)
 
-unfoldable pub kind_of : ℕ → KindRead
+unfoldable pub kind_of : ℕ → Result Kind UnknownKind
 kind_of n = kind_in kinds n

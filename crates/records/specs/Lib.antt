@@ -13,6 +13,7 @@ pub mod Layout
 pub mod Faults
 pub mod Record
 pub mod Trace
+pub mod Walk
 pub mod Judged
 pub mod RecordTable
 pub mod TraceTable

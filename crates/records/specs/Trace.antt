@@ -9,14 +9,10 @@
 --   read_trace trace       ==  what the trace says
 --                              "The empty trace is accepted"
 --   checked_of said        ==  what a check of all records answers: the number of retirements, or the refusal
-use Rattle.std.specs.Prelude.{ℕ, zero, suc, List, [], ◌∷◌}
+use Rattle.std.specs.Prelude.{ℕ, zero, suc, List, [], ◌∷◌, Some, None, Result, Ok, Err}
 use Rattle.state.specs.declared.Event.{Event}
 use Rattle.refusals.specs.declared.Refusal.{Refusal}
-use Rattle.records.specs.declared.record.Read.{Read}
-use Rattle.records.specs.declared.record.Read.TheVariants.{Got, Bad, End}
-use Rattle.records.specs.declared.Checked.{Checked}
-use Rattle.records.specs.declared.Checked.TheVariants.{Sound, Unsound}
-use Rattle.records.specs.Record.{remaining, read_at}
+use Rattle.records.specs.Record.{Read, remaining, read_at}
 use Rattle.state.specs.Events.{count_of}
 
 pub data Trace : Type 0 where
@@ -28,9 +24,9 @@ ahead e (events es) = events (e ∷ es)
 ahead e (refused refusal) = refused refusal
 
 abbrev pub go_on : (ℕ → Trace) → Read → Trace
-go_on rest End = events []
-go_on rest (Bad refusal) = refused refusal
-go_on rest (Got e next) = ahead e (rest next)
+go_on rest (Ok None) = events []
+go_on rest (Ok (Some (e, next))) = ahead e (rest next)
+go_on rest (Err refusal) = refused refusal
 
 unfoldable pub read_in : ℕ → List ℕ → ℕ → Trace
 read_in zero trace at = events []
@@ -42,6 +38,6 @@ read_from trace at = read_in (remaining trace at) trace at
 abbrev pub read_trace : List ℕ → Trace
 read_trace trace = read_from trace 0
 
-abbrev pub checked_of : Trace → Checked
-checked_of (events es) = Sound (count_of es)
-checked_of (refused refusal) = Unsound refusal
+abbrev pub checked_of : Trace → Result ℕ Refusal
+checked_of (events es) = Ok (count_of es)
+checked_of (refused refusal) = Err refusal

@@ -9,25 +9,23 @@ use refusals::{Refusal, Verdict};
 pub const ALL_FLAGS: u16 = 31;
 
 // The verdict on the record of this kind at `at`, whose head is there.
+#[tactic(auto, unfolding(crate::specs::Faults::fault_at))]
 pub fn fault_at(trace: &[u8], at: usize, kind: Kind) -> Verdict
     requires { at + 4 ≤ length trace.now }
     ensures { result ≡ fault_at trace.now at kind }
 {
     let want = crate::kinds::payload_length(kind);
-    let size = want as usize;
-    let next = at + 4 + size;
+    let next = at + 4 + usize::from(want);
     let len = little_endian::u16_at(trace, at);
     if len != want {
-        return Verdict::Refused(Refusal::WrongLength(at));
+        return Err(Refusal::WrongLength(at));
     }
     if trace.len() < next {
-        return Verdict::Refused(Refusal::Cut(at));
+        return Err(Refusal::Cut(at));
     }
-    // Only a retirement has a payload, and flags in it.
-    if want != 0 {
-        if ALL_FLAGS < little_endian::u16_at(trace, at + 6) {
-            return Verdict::Refused(Refusal::Flag(at));
-        }
+    // Only a retirement has flags.
+    if kind == Kind::Retirement && ALL_FLAGS < little_endian::u16_at(trace, at + 6) {
+        return Err(Refusal::Flag(at));
     }
-    Verdict::Accepted
+    Ok(())
 }

@@ -1,8 +1,8 @@
 // Part 6 of document 01: the kinds of records in a trace.
 ghost use Rattle.std.specs.Prelude.{◌≡◌};
-ghost use Rattle.records.specs.Kinds.{kind_of, payload_length};
+ghost use Rattle.records.specs.Kinds.{payload_length};
 
-#[derive(Clone, Copy)]
+#[derive(Clone, Copy, PartialEq, Eq)]
 pub enum Kind {
     Retirement,
     Break,
@@ -10,22 +10,27 @@ pub enum Kind {
     ClearUser,
 }
 
-// The kind that a number names, if there is one.
+// No kind has the number.
 #[derive(Clone, Copy)]
-pub enum KindRead {
-    Known(Kind),
-    Unknown,
-}
+pub struct UnknownKind;
 
-pub fn kind_of(number: u16) -> KindRead
-    ensures { result ≡ kind_of number }
-{
-    match number {
-        1 => KindRead::Known(Kind::Retirement),
-        2 => KindRead::Known(Kind::Break),
-        3 => KindRead::Known(Kind::ClearAll),
-        4 => KindRead::Known(Kind::ClearUser),
-        _ => KindRead::Unknown,
+// The kind that a number names, if there is one.
+impl TryFrom<u16> for Kind {
+    ghost use Rattle.records.specs.Kinds.{kind_of};
+
+    type Error = UnknownKind;
+
+    ghost try_from_gives = { λ number kind. kind ≡ kind_of number };
+
+    #[tactic(auto, unfolding(crate::specs::Kinds::kind_of))]
+    fn try_from(number: u16) -> Result<Kind, UnknownKind> {
+        match number {
+            1 => Ok(Kind::Retirement),
+            2 => Ok(Kind::Break),
+            3 => Ok(Kind::ClearAll),
+            4 => Ok(Kind::ClearUser),
+            _ => Err(UnknownKind),
+        }
     }
 }
 
@@ -34,8 +39,6 @@ pub fn payload_length(kind: Kind) -> u16
 {
     match kind {
         Kind::Retirement => 16,
-        Kind::Break => 0,
-        Kind::ClearAll => 0,
-        Kind::ClearUser => 0,
+        Kind::Break | Kind::ClearAll | Kind::ClearUser => 0,
     }
 }

@@ -11,7 +11,7 @@ ghost use Rattle.refusals.specs.Refusals.{number_of, place_of};
 
 pub use outcome::{Ran, refused};
 
-#[derive(Clone, Copy)]
+#[derive(Clone, Copy, PartialEq, Eq)]
 pub enum Refusal {
     // The trace or the batch is over its limit.
     Oversized,
@@ -36,12 +36,9 @@ pub enum Refusal {
 }
 
 // What was handed in is taken, or it is refused.
-#[derive(Clone, Copy)]
-pub enum Verdict {
-    Accepted,
-    Refused(Refusal),
-}
+pub type Verdict = Result<(), Refusal>;
 
+// Stays a function, with `place` beside it: they are document 01's two columns, and a place is no conversion.
 pub fn number(refusal: Refusal) -> u8
     ensures { result ≡ number_of refusal }
 {
@@ -63,15 +60,13 @@ pub fn place(refusal: Refusal) -> usize
     ensures { result ≡ place_of refusal }
 {
     match refusal {
-        Refusal::Oversized => 0,
-        Refusal::Remainder(at) => at,
-        Refusal::WrongKind(at) => at,
-        Refusal::WrongLength(at) => at,
-        Refusal::Cut(at) => at,
-        Refusal::Flag(at) => at,
-        Refusal::Room(at) => at,
-        Refusal::ImageLength => 0,
-        Refusal::ImageHeader => 0,
+        Refusal::Remainder(at)
+        | Refusal::WrongKind(at)
+        | Refusal::WrongLength(at)
+        | Refusal::Cut(at)
+        | Refusal::Flag(at)
+        | Refusal::Room(at) => at,
+        Refusal::Oversized | Refusal::ImageLength | Refusal::ImageHeader => 0,
         Refusal::ImageWindow => 1284,
     }
 }

@@ -6,6 +6,7 @@ use crate::{Refusal, Verdict};
 use state::Oep060Timing;
 
 // What a run of a trace or a batch gives.
+// Stays a verdict beside values: a refused run answers count 0, total 0 and the state that it was given.
 #[derive(Clone, Copy)]
 pub struct Ran {
     pub verdict: Verdict,
@@ -21,11 +22,10 @@ pub struct Ran {
 pub fn refused(refusal: Refusal, timing: Oep060Timing) -> Ran
     ensures { result ≡ refused_of refusal timing }
 {
-    let given = timing.seen();
     Ran {
-        verdict: Verdict::Refused(refusal),
+        verdict: Err(refusal),
         count: 0,
         total: 0,
-        timing: given,
+        timing: timing.seen(),
     }
 }

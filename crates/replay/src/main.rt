@@ -5,27 +5,18 @@
 // on standard error.
 #![tactic(auto)]
 
-use input::{Input, Word};
-use profile::Profile;
 use replaying::REPLAY_ROOM;
 use std::io;
 
-fn replay(rt: &(impl io::Input + Print + Eprint), profile: Profile) -> io::Result<()> {
+fn main(rt: HostRuntime) -> io::Result<()> {
+    let Some(profile) = input::read_word(&rt) else {
+        return eprintln!(rt; "replay: the profile is crate or mended");
+    };
     // The longer image, the longest trace, and one byte more, so that longer input is seen to be longer.
     let mut bytes = [0u8; 66831];
-    match input::read_input(rt, &mut bytes) {
-        Input::Unreadable => eprintln!(rt; "replay: standard input cannot be read"),
-        Input::Taken(n) => {
-            let mut text = [0u8; REPLAY_ROOM];
-            let len = replaying::replay_text(&bytes[..n], &mut text, profile);
-            rt.write_all(&text[..len])
-        }
-    }
-}
-
-fn main(rt: HostRuntime) -> io::Result<()> {
-    match input::read_word(&rt) {
-        Word::Named(profile) => replay(&rt, profile),
-        Word::Unknown => eprintln!(rt; "replay: the profile is crate or mended"),
-    }
+    input::on_input(&rt, "replay", &mut bytes, |image_and_trace| {
+        let mut text = [0u8; REPLAY_ROOM];
+        let len = replaying::replay_text(image_and_trace, &mut text, profile);
+        rt.write_all(&text[..len])
+    })
 }

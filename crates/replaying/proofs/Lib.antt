@@ -1,3 +1,2 @@
-pub mod Parted
 pub mod Replaying
 pub mod Rows

@@ -1,10 +1,11 @@
 -- The replay's text: the listing, and behind it the next state: its head's line, and its image in rows.
 -- Assumes nothing.
 use Prim.Native.Nat.{ℕ, ◌+◌, ◌≤◌}
-use mathlib.Core.Path.{◌≡◌, refl, sym, ap, ◌∙◌}
+use mathlib.Core.Path.{◌≡◌, refl, ap, ◌∙◌}
 use mathlib.Core.List.{List, ◌++◌, append-nil}
 use mathlib.Core.Bool.{Bool, true, false, cond}
 use native.Mathlib.Omega.{arith}
+use Rattle.std.specs.Prelude.{Result, Err}
 use lib.ListN.{length, length-append, drop_of_length-le}
 use borrow.Author.Tests.{le-ltb}
 use Rattle.little_endian.specs.Numbers.{bytes_of, put_at, bytes_of_each}
@@ -17,22 +18,17 @@ use Rattle.profile.specs.declared.Profile.{Profile}
 use Rattle.state.specs.declared.Event.{Event}
 use Rattle.state.specs.declared.Oep060Timing.{Oep060Timing}
 use Rattle.refusals.specs.declared.Refusal.{Refusal}
-use Rattle.refusals.specs.declared.Verdict.{Verdict}
-use Rattle.refusals.specs.declared.Verdict.TheVariants.{Accepted, Refused}
+use Rattle.refusals.specs.Verdict.{accepted}
 use Rattle.records.specs.Trace.{Trace, events, refused}
 use Rattle.image.specs.Bytes.{header_bytes, window_bytes, head_bytes}
 use Rattle.image.proofs.ImageBytesWriting.{header_length}
-use Rattle.image.specs.declared.ImageWritten.{ImageWritten}
-use Rattle.image.specs.declared.ImageRead.{ImageRead}
 use Rattle.image.specs.Image.{image_of}
-use Rattle.image.specs.Entries.{image_outcome, ImageOutcome, image_write_of, image_read_of}
-use Rattle.listing.specs.Lines.{refusal_line}
+use Rattle.image.specs.Entries.{image_outcome, ImageOutcome, image_write_of}
 use Rattle.listing.specs.declared.Listed.{Listed}
 use Rattle.listing.specs.Listing.{ListingOutcome, listing_outcome, listing_outcome_by, short_trace_of, table_of}
 use Rattle.listing.proofs.Within.{text_fits, listed_text}
 use Rattle.replaying.specs.HeadLine.{head_line}
 use Rattle.replaying.specs.Replay.{image_lines, state_lines, shown}
-use Rattle.replaying.specs.Inner.{replayed_by, replayed}
 use Rattle.replaying.proofs.Rows.{rows_length}
 use Rattle.little_endian.proofs.Each.{each_length}
 
@@ -54,7 +50,7 @@ image_long t a b =
     )
 
 pub image_fills : (t : Oep060Timing) (lent : List ℕ) → length lent ≡ 1294 → length t.cache.tags ≡ 256 → length t.cache.state ≡ 256
-    → {w : ImageWritten} {bytes : List ℕ} → image_outcome w bytes ≡ image_write_of t lent → bytes ≡ image_of t
+    → {w : Result ℕ Refusal} {bytes : List ℕ} → image_outcome w bytes ≡ image_write_of t lent → bytes ≡ image_of t
 unfolding image_write_of put_at
 image_fills t lent l a b e =
     let n = image_long t a b in
@@ -63,7 +59,7 @@ image_fills t lent l a b e =
 
 -- ---- the text
 pub shown_refused : (P : Profile) (said : Trace) (out : List ℕ) (t : Oep060Timing) {r : Listed} {after : List ℕ} {refusal : Refusal}
-    → listing_outcome r after ≡ listing_outcome_by P said out t → r.verdict ≡ Refused refusal → written r.len after ≡ written_of out 0 (shown P said t)
+    → listing_outcome r after ≡ listing_outcome_by P said out t → r.verdict ≡ Err refusal → written r.len after ≡ written_of out 0 (shown P said t)
 shown_refused P (refused other) out t e v = listed_text P (refused other) out t e
 shown_refused P (events es) out t e v =
     let u = ap (λ (o : ListingOutcome). o.answer.verdict) e in
@@ -71,7 +67,7 @@ shown_refused P (events es) out t e v =
     absurd (omega arith)
 
 never : (P : Profile) (refusal : Refusal) (out : List ℕ) (t : Oep060Timing) {r : Listed} {after : List ℕ}
-    → listing_outcome r after ≡ listing_outcome_by P (refused refusal) out t → r.verdict ≡ Accepted → ⊥
+    → listing_outcome r after ≡ listing_outcome_by P (refused refusal) out t → r.verdict ≡ accepted → ⊥
 never P refusal out t e v =
     let u = ap (λ (o : ListingOutcome). o.answer.verdict) e in
     let z : ◌≡◌ {A = ℕ} 0 1 = cc in
@@ -82,7 +78,7 @@ abbrev Bound : Profile → Trace → Oep060Timing → Type 0
 Bound P said t = (es : List Event) → said ≡ events es → length (table_of P es t) ≤ 65588
 
 short : (P : Profile) (said : Trace) (out : List ℕ) (t : Oep060Timing) → Bound P said t → {r : Listed} {after : List ℕ}
-    → listing_outcome r after ≡ listing_outcome_by P said out t → r.verdict ≡ Accepted → r.len ≤ 65588
+    → listing_outcome r after ≡ listing_outcome_by P said out t → r.verdict ≡ accepted → r.len ≤ 65588
 short P (events es) out t f e v = omega (arith, f es refl, ap (λ (o : ListingOutcome). o.answer.len) e)
 short P (refused refusal) out t f e v = absurd (never P refusal out t e v)
 
@@ -99,7 +95,7 @@ state_length t l = omega (arith, length-append (head_line t.window) (image_lines
 
 -- the state follows
 rows : (P : Profile) (said : Trace) (out : List ℕ) (t : Oep060Timing) → 68258 ≤ length out → Bound P said t → {r : Listed} {after : List ℕ}
-    → listing_outcome r after ≡ listing_outcome_by P said out t → r.verdict ≡ Accepted → length (image_of r.timing) ≡ 1294
+    → listing_outcome r after ≡ listing_outcome_by P said out t → r.verdict ≡ accepted → length (image_of r.timing) ≡ 1294
     → {n : ℕ} {last : List ℕ} → written n last ≡ written_of after r.len (state_lines r.timing)
     → written n last ≡ written_of out 0 (shown P said t)
 rows P (events es) out t room f {r} e v l d =
@@ -109,7 +105,7 @@ rows P (events es) out t room f {r} e v l d =
     ∙ ap (λ (x : Oep060Timing). written_of out 0 (table_of P es t ++ state_lines x)) (ap (λ (o : ListingOutcome). o.answer.timing) e)
 rows P (refused refusal) out t room f e v l d = absurd (never P refusal out t e v)
 
-module _ (P : Profile) (trace out : List ℕ) (t : Oep060Timing) {r : Listed} {after : List ℕ} (e : listing_outcome r after ≡ listing_outcome_by P (short_trace_of trace) out t) (v : r.verdict ≡ Accepted) where
+module _ (P : Profile) (trace out : List ℕ) (t : Oep060Timing) {r : Listed} {after : List ℕ} (e : listing_outcome r after ≡ listing_outcome_by P (short_trace_of trace) out t) (v : r.verdict ≡ accepted) where
   bound : Bound P (short_trace_of trace) t
   bound es q = text_fits P trace t q
 
@@ -120,11 +116,3 @@ module _ (P : Profile) (trace out : List ℕ) (t : Oep060Timing) {r : Listed} {a
       → {n : ℕ} {last : List ℕ} → written n last ≡ written_of after r.len (state_lines r.timing)
       → written n last ≡ written_of out 0 (shown P (short_trace_of trace) t)
   replay_shown room a b d = rows P (short_trace_of trace) out t room bound e v (image_long r.timing a b) d
-
--- ---- the verdict on the image
-module _ (P : Profile) (image trace : List ℕ) {read : ImageRead} (e : read ≡ image_read_of image) where
-  pub printed_refused : {refusal : Refusal} → read.verdict ≡ Refused refusal → replayed P (image_read_of image) trace ≡ text_of "image " ++ refusal_line refusal
-  printed_refused v = ap (λ (x : ImageRead). replayed P x trace) (sym e) ∙ ap (λ (u : Verdict). replayed_by P u read.timing trace) v
-
-  pub printed_accepted : read.verdict ≡ Accepted → replayed P (image_read_of image) trace ≡ shown P (short_trace_of trace) read.timing
-  printed_accepted v = ap (λ (x : ImageRead). replayed P x trace) (sym e) ∙ ap (λ (u : Verdict). replayed_by P u read.timing trace) v

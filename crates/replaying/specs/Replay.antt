@@ -13,13 +13,12 @@
 --   replay_by p v input  ==  the output by the verdict on the image: `image refused N at P`, or what follows from its
 --                            state
 --   replay_of p input    ==  the whole output
-use Rattle.std.specs.Prelude.{ℕ, cond, List, ◌++◌, eqb, take, drop}
+use Rattle.std.specs.Prelude.{ℕ, cond, List, ◌++◌, Ok, Err, eqb, take, drop}
 use Rattle.little_endian.specs.Numbers.{number_at}
 use Rattle.text.specs.Written.{text_of}
 use Rattle.profile.specs.declared.Profile.{Profile}
 use Rattle.state.specs.declared.Oep060Timing.{Oep060Timing}
-use Rattle.refusals.specs.declared.Verdict.{Verdict}
-use Rattle.refusals.specs.declared.Verdict.TheVariants.{Accepted, Refused}
+use Rattle.refusals.specs.Verdict.{Verdict}
 use Rattle.records.specs.Trace.{Trace, events, refused}
 use Rattle.trace.specs.Run.{next_of}
 use Rattle.image.specs.Image.{image_of}
@@ -50,8 +49,8 @@ shown p (events es) t = table_of p es t ++ state_lines (next_of p t es)
 shown p (refused refusal) t = refusal_line refusal
 
 abbrev pub replay_by : Profile → Verdict → List ℕ → List ℕ
-replay_by p (Refused refusal) input = text_of "image " ++ refusal_line refusal
-replay_by p Accepted input = shown p (short_trace_of (trace_in input)) (image_read_of (image_in input)).timing
+replay_by p (Err refusal) input = text_of "image " ++ refusal_line refusal
+replay_by p (Ok done) input = shown p (short_trace_of (trace_in input)) (image_read_of (image_in input)).timing
 
 abbrev pub replay_of : Profile → List ℕ → List ℕ
 replay_of p input = replay_by p (image_read_of (image_in input)).verdict input

@@ -1,4 +1,6 @@
 // The head of a window in a line.
+#![tactic(auto, using(text::proofs::Behind::behind))]
+
 ghost use Rattle.std.specs.Prelude.{◌≡◌, ◌++◌, ◌+◌, ◌≤◌, length};
 ghost use Rattle.text.specs.Hex.{hex_of, hex_long_of};
 ghost use Rattle.text.specs.Written.{text_of, newline, written, written_of};
@@ -14,11 +16,10 @@ fn put_named(out: &mut [u8], at: usize, op: u16, address: u32) -> usize
         (text_of "head " ++ hex_of op ++ text_of " at " ++ hex_long_of address ++ newline) }
 {
     let a = text::put_bytes(out, at, b"head ");
-    let b = text::put_hex4(out, a, op);
+    let b = text::put_hex::<4>(out, a, op as u32);
     let c = text::put_bytes(out, b, b" at ");
-    let d = text::put_hex8(out, c, address);
-    out[d] = b'\n';
-    d + 1
+    let d = text::put_hex::<8>(out, c, address);
+    text::put_bytes(out, d, b"\n")
 }
 
 // A shut window has no head.

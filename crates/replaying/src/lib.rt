@@ -18,7 +18,7 @@ ghost use Rattle.replaying.specs.Inner.{replayed};
 
 use image::{IMAGE_LENGTH, KIND, OLD_LENGTH};
 use profile::Profile;
-use refusals::{Refusal, Verdict};
+use refusals::Refusal;
 use state::Oep060Timing;
 
 // Room for the longest text: the lister's, the head's line, and the 1,294 bytes of an image, two digits each, in 41
@@ -31,11 +31,13 @@ fn put_image_lines(out: &mut [u8], at: usize, timing: Oep060Timing) -> usize
     ensures { written result out.new ≡ written_of out.old at (image_lines timing) }
 {
     let mut bytes = [0u8; IMAGE_LENGTH];
-    image::image_write(timing, &mut bytes);
+    // It has room, and so it is not refused.
+    let _ = image::image_write(timing, &mut bytes);
     hex_lines::put_rows(out, at, &bytes)
 }
 
 // A state: its head, then its image.
+#[tactic(auto, using(text::proofs::Behind::behind, crate::proofs::Replaying::head_line_length))]
 fn put_state(out: &mut [u8], at: usize, timing: Oep060Timing) -> usize
     requires { at + 2651 ≤ length out.old }
     ensures { written result out.new ≡ written_of out.old at (state_lines timing) }
@@ -45,22 +47,24 @@ fn put_state(out: &mut [u8], at: usize, timing: Oep060Timing) -> usize
 }
 
 // The replay's text from the state that was read.
-fn replay_from(trace: &[u8], out: &mut [u8], timing: Oep060Timing, profile: Profile) -> usize
-    requires { 68258 ≤ length out.old }
+fn replay_from(
+    trace: &[u8],
+    out: &mut [u8; REPLAY_ROOM],
+    timing: Oep060Timing,
+    profile: Profile,
+) -> usize
     ensures { written result out.new
         ≡ written_of out.old 0 (shown profile (short_trace_of trace.now) timing) }
 {
     let listed = listing::list_into(trace, out, timing, profile);
-    let verdict = listed.verdict;
-    let len = listed.len;
-    let next = listed.timing;
-    match verdict {
-        Verdict::Refused(_) => len,
-        Verdict::Accepted => put_state(out, len, next),
+    match listed.verdict {
+        Err(_) => listed.len,
+        Ok(()) => put_state(out, listed.len, listed.timing),
     }
 }
 
 // The whole text where the image is refused.
+#[tactic(auto, using(text::proofs::Behind::behind))]
 fn put_refused(out: &mut [u8], refusal: Refusal) -> usize
     requires { 59 ≤ length out.old }
     ensures { written result out.new
@@ -71,17 +75,14 @@ fn put_refused(out: &mut [u8], refusal: Refusal) -> usize
 }
 
 // The image is judged first.
-fn replay_parts(image: &[u8], trace: &[u8], out: &mut [u8], profile: Profile) -> usize
-    requires { 68258 ≤ length out.old }
+fn replay_parts(image: &[u8], trace: &[u8], out: &mut [u8; REPLAY_ROOM], profile: Profile) -> usize
     ensures { written result out.new
         ≡ written_of out.old 0 (replayed profile (image_read_of image.now) trace.now) }
 {
     let read = image::image_read(image);
-    let verdict = read.verdict;
-    let timing = read.timing;
-    match verdict {
-        Verdict::Refused(refusal) => put_refused(out, refusal),
-        Verdict::Accepted => replay_from(trace, out, timing, profile),
+    match read.verdict {
+        Err(refusal) => put_refused(out, refusal),
+        Ok(()) => replay_from(trace, out, read.timing, profile),
     }
 }
 
@@ -94,32 +95,18 @@ fn image_size(input: &[u8]) -> usize
         return n;
     }
     if little_endian::u16_at(input, 2) == KIND {
-        return least(n, IMAGE_LENGTH);
+        return n.min(IMAGE_LENGTH);
     }
-    least(n, OLD_LENGTH)
+    n.min(OLD_LENGTH)
 }
 
-// The trace is what follows the image.
-fn replay_into(input: &[u8], out: &mut [u8], profile: Profile) -> usize
-    requires { 68258 ≤ length out.old }
-    ensures { written result out.new
-        ≡ written_of out.old 0 (replay_of profile input.now) }
-{
-    let size = image_size(input);
-    replay_parts(&input[..size], &input[size..], out, profile)
-}
-
-fn least(a: usize, b: usize) -> usize
-    ensures { result ≡ min a b }
-{
-    if a < b { a } else { b }
-}
-
-// The replay's text: its length, and in the lent bytes the text itself; bytes beyond it stay.
+// The replay's text: its length, and in the lent bytes the text itself; bytes beyond it stay. The trace is what follows
+// the image.
 pub fn replay_text(input: &[u8], text: &mut [u8; REPLAY_ROOM], profile: Profile) -> usize
     ensures text_after { written result text.new
         ≡ written_of text.old 0 (replay_of profile input.now) }
     ensures upper_bound { result ≤ length text.new }
 {
-    replay_into(input, text, profile)
+    let (image, trace) = input.split_at(image_size(input));
+    replay_parts(image, trace, text, profile)
 }

@@ -1,9 +1,9 @@
 -- How long the texts of the page are: at most 40 characters for a row, and 2,000 for a rule.
 -- Assumes nothing.
 use Prim.Native.Nat.{ℕ, ◌≤◌, ◌<◌}
-use mathlib.Core.Path.{◌≡◌, refl}
+use mathlib.Core.Path.{◌≡◌, refl, ap}
 use mathlib.Core.Bool.{Bool, true, false, cond}
-use mathlib.Core.List.{List, []}
+use mathlib.Core.List.{List, [], ◌++◌}
 use native.Mathlib.Omega.{arith}
 use lib.Dec.{leb, ltb}
 use lib.ListN.{length, length-append}
@@ -17,10 +17,10 @@ use Rattle.text.specs.Written.{text_of}
 use Rattle.text.specs.Decimal.{digits_in, decimal_of}
 use Rattle.text.proofs.Digits.{decimal_length}
 use Rattle.rule_text.specs.Each.{each_from}
-use Rattle.rule_text.specs.Names.{mode_count, mode_names, mode_name, six_at, flags_text}
+use Rattle.rule_text.specs.Names.{mode_count, mode_names, mode_name, six_at, none_text, flag_text, flags_text}
 use Rattle.rule_text.specs.Lines.{row_count, begins, ends, run_begins, run_ends, row_text, heading_line, word_text, mode_line, closing_line}
-use Rattle.rule_text.specs.Page.{runs_text, rule_text}
-use Rattle.rule_text.proofs.Going.{each_most}
+use Rattle.rule_text.specs.Page.{runs_text, rule_text, page_text}
+use Rattle.rule_text.proofs.Each.{each_most}
 
 cond_most : (b : Bool) (l : List ℕ) → length (cond b l []) ≤ length l
 cond_most true l = omega arith
@@ -77,7 +77,7 @@ heading_most n h =
     ))
 
 flags_most : (w : ℕ) → length (flags_text w) ≤ 97
-unfolding flags_text
+unfolding flags_text flag_text none_text
 flags_most w =
     simp length-append
     (omega (
@@ -133,3 +133,14 @@ runs_most = omega (arith, each_most row_text 40 0 row_count (λ row l. row_most 
 
 pub rules_most : length (each_from 0 rule_count rule_text) ≤ 58000
 rules_most = omega (arith, each_most rule_text 2000 0 rule_count (λ n l. rule_text_most n (omega arith)))
+
+pub page_most : length page_text ≤ 100000
+page_most =
+    omega (
+      arith,
+      length-append (runs_text ++ each_from 0 rule_count rule_text) closing_line,
+      length-append runs_text (each_from 0 rule_count rule_text),
+      runs_most,
+      rules_most,
+      ap length closing_is,
+    )

@@ -1,5 +1,4 @@
-pub mod Parts
 pub mod Listed
-pub mod Going
-pub mod Chain
+pub mod Each
 pub mod Lengths
+pub mod Flags

@@ -4,9 +4,7 @@
 --   Lines  ==  its lines
 --   Names  ==  the names of operand modes and of flags
 --   Each   ==  texts of numbers, one behind the other
---   Inner  ==  what the functions inside answer; nothing of it enters the promise of `put_page`
 pub mod Page
 pub mod Lines
 pub mod Names
 pub mod Each
-pub mod Inner

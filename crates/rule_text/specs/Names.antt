@@ -51,10 +51,10 @@ mode_name m = first (mode_names m)
 abbrev pub six_at : ℕ → ℕ
 six_at m = cond (ltb m 7) (8 * m) (49 + m)
 
-abbrev pub flag_text : ℕ → ℕ → List ℕ → List ℕ
+unfoldable pub flag_text : ℕ → ℕ → List ℕ → List ℕ
 flag_text w f n = cond (has w f) n []
 
-abbrev pub none_text : ℕ → List ℕ
+unfoldable pub none_text : ℕ → List ℕ
 none_text w = cond (ltb w BRANCH) (text_of " none") []
 
 unfoldable pub flags_text : ℕ → List ℕ

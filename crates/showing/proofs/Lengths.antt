@@ -15,9 +15,10 @@ use Rattle.state.specs.declared.Event.TheVariants.{Retired, Broken, ClearedAll, 
 use Rattle.listing.proofs.Reading.{Raw}
 use Rattle.records.specs.Kinds.{payload_length}
 use Rattle.records.specs.Record.{kind_of_event}
-use Rattle.showing.specs.Lines.{controls_text, retirement_text, record_text, record_line, end_line}
+use Rattle.showing.specs.Lines.{flags_text, controls_text, retirement_text, record_text, record_line, end_line}
 
 pub controls_length : (k : Controls) → length (controls_text k) ≡ 24 + length (signed_decimal_of k.raw.0)
+unfolding flags_text controls_text
 controls_length k = simp length-append (omega arith)
 
 pub retirement_length : (r : Retirement) → length (retirement_text r) ≡ 16 + length (controls_text r.controls)

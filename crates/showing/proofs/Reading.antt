@@ -6,10 +6,9 @@ use mathlib.Core.List.{List}
 use native.Mathlib.Omega.{arith}
 use lib.ListN.{length, length-append}
 use Rattle.state.specs.declared.Event.{Event}
-use Rattle.records.specs.declared.record.Read.{Read}
-use Rattle.records.specs.declared.record.Read.TheVariants.{Got, Bad, End}
+use Rattle.std.specs.Prelude.{Some, None, Ok, Err}
 use Rattle.records.specs.Faults.{next_place}
-use Rattle.records.specs.Record.{remaining, kind_of_event, read_at}
+use Rattle.records.specs.Record.{Read, remaining, kind_of_event, read_at}
 use Rattle.records.specs.Trace.{Trace, events, refused, ahead, go_on, read_in, read_from, read_trace}
 use Rattle.records.proofs.Reading.{got_ends}
 use Rattle.listing.proofs.Reading.{Raw, got_raw}
@@ -28,9 +27,9 @@ module _ (trace : List ℕ) (small : length trace ≤ 65536) where
   lined_on : (at : ℕ) (f : ℕ → Trace) → ((next : ℕ) → 4 * length (lines_of next (f next)) ≤ 17 * remaining trace next)
       → (r : Read) → read_at trace at ≡ r → 4 * length (lines_of at (go_on f r)) ≤ 17 * remaining trace at
   unfolding lines_from
-  lined_on at f h End q = omega arith
-  lined_on at f h (Bad refusal) q = omega arith
-  lined_on at f h (Got e next) q =
+  lined_on at f h (Ok None) q = omega arith
+  lined_on at f h (Err refusal) q = omega arith
+  lined_on at f h (Ok (Some (e, next))) q =
       let w = (got_ends trace at e next q).1 in
       let n = (got_ends trace at e next q).0 in
       lined_ahead at (remaining trace at) (remaining trace next) e (f next) (omega arith) (got_raw trace at q) (omega arith)

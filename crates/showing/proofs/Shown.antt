@@ -11,9 +11,9 @@ use borrow.Author.Tests.{ltb-true, ltb-false}
 use Rattle.text.specs.Written.{written, written_of}
 use Rattle.text.proofs.Writing.{wrote, written_within}
 use Rattle.refusals.specs.declared.Refusal.{Refusal}
-use Rattle.refusals.specs.declared.Verdict.TheVariants.{Accepted, Refused}
-use Rattle.records.specs.declared.Checked.TheVariants.{Sound, Unsound}
-use Rattle.records.specs.Trace.{Trace, events, refused, read_trace, checked_of}
+use Rattle.std.specs.Prelude.{Err}
+use Rattle.refusals.specs.Verdict.{accepted}
+use Rattle.records.specs.Trace.{Trace, events, refused, read_trace}
 use Rattle.records.specs.Judged.{verdict_of}
 use Rattle.listing.specs.Lines.{refusal_line}
 use Rattle.listing.specs.Listing.{short_trace_of}
@@ -25,36 +25,19 @@ use Rattle.showing.proofs.Lengths.{end_most}
 use Rattle.showing.proofs.Reading.{lines_most}
 use Rattle.showing.proofs.Going.{not_both_lem}
 
--- ---- what the check of all records tells
-check_refused : (said : Trace) {refusal : Refusal} → checked_of said ≡ Unsound refusal → Refused refusal ≡ verdict_of said
-check_refused (events es) q = let z : ◌≡◌ {A = ℕ} 0 1 = cc in absurd (omega arith)
-check_refused (refused other) q = cc
-
-check_sound : (said : Trace) {n : ℕ} → checked_of said ≡ Sound n → Accepted ≡ verdict_of said
-check_sound (events es) q = refl
-check_sound (refused other) q = let z : ◌≡◌ {A = ℕ} 0 1 = cc in absurd (omega arith)
-
-module _ (trace : List ℕ) (h : length trace ≤ 65536) where
-  pub judged_refused : {refusal : Refusal} → checked_of (read_trace trace) ≡ Unsound refusal → Refused refusal ≡ verdict_of (short_trace_of trace)
-  judged_refused q = rw (judged_same trace h) (check_refused (read_trace trace) q)
-
-  pub judged_sound : {n : ℕ} → checked_of (read_trace trace) ≡ Sound n → Accepted ≡ verdict_of (short_trace_of trace)
-  judged_sound q = rw (judged_same trace h) (check_sound (read_trace trace) q)
-
--- ---- the text
-by_refused : (size : ℕ) (said : Trace) {refusal : Refusal} → verdict_of said ≡ Refused refusal → shown_by size said ≡ refusal_line refusal
+by_refused : (size : ℕ) (said : Trace) {refusal : Refusal} → verdict_of said ≡ Err refusal → shown_by size said ≡ refusal_line refusal
 by_refused size (events es) v = absurd (not_both_lem (sym v))
 by_refused size (refused other) {refusal} v = let q : other ≡ refusal = cc in ap refusal_line q
 
-by_accepted : (size : ℕ) (said : Trace) → verdict_of said ≡ Accepted → shown_by size said ≡ header_line ++ lines_of 0 said ++ end_line size
+by_accepted : (size : ℕ) (said : Trace) → verdict_of said ≡ accepted → shown_by size said ≡ header_line ++ lines_of 0 said ++ end_line size
 by_accepted size (events es) v = refl
 by_accepted size (refused other) v = absurd (not_both_lem v)
 
 module _ (trace : List ℕ) where
-  pub shown_refused : {refusal : Refusal} → verdict_of (short_trace_of trace) ≡ Refused refusal → shown_of trace ≡ refusal_line refusal
+  pub shown_refused : {refusal : Refusal} → verdict_of (short_trace_of trace) ≡ Err refusal → shown_of trace ≡ refusal_line refusal
   shown_refused v = by_refused (length trace) (short_trace_of trace) v
 
-  module _ (v : verdict_of (short_trace_of trace) ≡ Accepted) where
+  module _ (v : verdict_of (short_trace_of trace) ≡ accepted) where
     -- only a trace within the limit is accepted
     limit : length trace ≤ 65536
     limit = go (ltb 65536 (length trace)) refl
@@ -63,7 +46,7 @@ module _ (trace : List ℕ) where
         go true q = absurd (not_both_lem (sym (ap verdict_of (judged_large trace (ltb-true 65536 (length trace) q))) ∙ v))
         go false q = ltb-false 65536 (length trace) q
 
-    pub shown_sound : verdict_of (read_trace trace) ≡ Accepted
+    pub shown_sound : verdict_of (read_trace trace) ≡ accepted
     shown_sound = sym (ap verdict_of (judged_same trace limit)) ∙ v
 
     pub shown_room : length (lines_of 0 (read_trace trace)) + 37 + length (end_line (length trace)) ≤ 278600

@@ -28,11 +28,11 @@ use Rattle.records.specs.Record.{kind_of_event}
 abbrev pub mark : Bool → Char → ℕ
 mark on letter = cond on (code letter) (code "-")
 
-abbrev pub flags_text : Controls → List ℕ
+unfoldable pub flags_text : Controls → List ℕ
 flags_text k = mark k.flowed "f" ∷ mark k.cached "c" ∷ mark k.ess "e" ∷ mark k.ebc "b"
     ∷ mark k.supervisor "s" ∷ []
 
-abbrev pub controls_text : Controls → List ℕ
+unfoldable pub controls_text : Controls → List ℕ
 controls_text k = flags_text k ++ text_of " " ++ hex_long_of k.ppc ++ text_of " " ++ hex_long_of k.pc ++ text_of " "
     ++ signed_decimal_of k.raw.0
 

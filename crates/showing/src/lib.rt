@@ -8,7 +8,7 @@ mod lines;
 
 ghost use Rattle.std.specs.Prelude.{◌≡◌, ◌++◌, ◌+◌, ◌≤◌, length};
 ghost use Rattle.text.specs.Written.{written, written_of};
-ghost use Rattle.refusals.specs.declared.Verdict.TheVariants.{Accepted};
+ghost use Rattle.refusals.specs.Verdict.{accepted};
 ghost use Rattle.records.specs.Trace.{read_trace};
 ghost use Rattle.records.specs.Judged.{verdict_of};
 ghost use Rattle.listing.specs.Listing.{short_trace_of};
@@ -17,7 +17,6 @@ ghost use Rattle.showing.specs.Inner.{lines_of};
 ghost use Rattle.showing.specs.Showing.{shown_of};
 
 use listing::MOST_LISTED_BYTES;
-use records::{Checked, Read};
 use refusals::{Refusal, Verdict};
 
 // Room for the longest text. A record of 4 bytes has a line of at most 17 characters, one of 20 bytes at most 58: so 17
@@ -25,49 +24,35 @@ use refusals::{Refusal, Verdict};
 pub const SHOWING_ROOM: usize = 278600;
 
 // Whether a trace is shown, or which refusal is; `explaining` prints by it, too.
+#[tactic(auto, unfolding(listing::specs::Listing::short_trace_of))]
 pub fn judge_short(trace: &[u8]) -> Verdict
     ensures { result ≡ verdict_of (short_trace_of trace.now) }
 {
     if MOST_LISTED_BYTES < trace.len() {
-        return Verdict::Refused(Refusal::Oversized);
+        return Err(Refusal::Oversized);
     }
-    let checked = records::check_all(trace);
-    match checked {
-        Checked::Unsound(refusal) => Verdict::Refused(refusal),
-        Checked::Sound(_) => Verdict::Accepted,
-    }
+    records::check_all(trace)?;
+    Ok(())
 }
 
 // A line for each record of a trace whose records are all sound.
 fn put_lines(trace: &[u8], out: &mut [u8], start: usize) -> usize
-    requires trace_value { verdict_of (read_trace trace.now) ≡ Accepted }
+    requires trace_value { verdict_of (read_trace trace.now) ≡ accepted }
     requires trace_in_bounds { start + length (lines_of 0 (read_trace trace.now)) ≤ length out.old }
     ensures { written result out.new
         ≡ written_of out.old start (lines_of 0 (read_trace trace.now)) }
 {
     let mut place = start;
-    let mut at: usize = 0;
-    loop {
-        let read = records::read_record(trace, at);
-        match read {
-            Read::End => {
-                return place;
-            }
-            // No record is refused: all are sound.
-            Read::Bad(_) => {
-                return place;
-            }
-            Read::Got(e, next) => {
-                place = lines::put_record(out, place, at, e);
-                at = next;
-            }
-        }
+    for (at, event) in records::events_of(trace) {
+        place = lines::put_record(out, place, at, event);
     }
+    place
 }
 
 // The whole text of a trace whose records are all sound.
+#[tactic(auto, using(text::proofs::Behind::behind))]
 fn put_shown(trace: &[u8], out: &mut [u8]) -> usize
-    requires trace_value { verdict_of (read_trace trace.now) ≡ Accepted }
+    requires trace_value { verdict_of (read_trace trace.now) ≡ accepted }
     requires trace_in_bounds { length (lines_of 0 (read_trace trace.now)) + 37 + length (end_line (length trace.now))
         ≤ length out.old }
     ensures { written result out.new
@@ -84,9 +69,8 @@ pub fn show_trace(trace: &[u8], text: &mut [u8; SHOWING_ROOM]) -> usize
     ensures text_after { written result text.new ≡ written_of text.old 0 (shown_of trace.now) }
     ensures upper_bound { result ≤ length text.new }
 {
-    let verdict = judge_short(trace);
-    match verdict {
-        Verdict::Refused(refusal) => listing::put_refusal(text, 0, refusal),
-        Verdict::Accepted => put_shown(trace, text),
+    match judge_short(trace) {
+        Err(refusal) => listing::put_refusal(text, 0, refusal),
+        Ok(()) => put_shown(trace, text),
     }
 }

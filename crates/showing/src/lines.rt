@@ -1,4 +1,6 @@
 // The lines that `show_trace` prints.
+#![tactic(auto, using(text::proofs::Behind::behind))]
+
 ghost use Rattle.std.specs.Prelude.{◌≡◌, cond, ◌+◌, ◌≤◌, length};
 ghost use Rattle.text.specs.Written.{written, written_of};
 ghost use Rattle.showing.specs.Lines.{flags_text, controls_text, retirement_text, record_text};
@@ -14,30 +16,32 @@ fn mark(on: bool, letter: u8) -> u8
     if on { letter } else { b'-' }
 }
 
+#[tactic(auto, unfolding(crate::specs::Lines::flags_text))]
 fn flag_letters(k: Controls) -> [u8; 5]
     ensures { result ≡ flags_text k }
 {
-    let f = mark(k.flowed, b'f');
-    let c = mark(k.cached, b'c');
-    let e = mark(k.ess, b'e');
-    let b = mark(k.ebc, b'b');
-    let s = mark(k.supervisor, b's');
-    [f, c, e, b, s]
+    [
+        mark(k.flowed, b'f'),
+        mark(k.cached, b'c'),
+        mark(k.ess, b'e'),
+        mark(k.ebc, b'b'),
+        mark(k.supervisor, b's'),
+    ]
 }
 
 // The flags, the two addresses and the raw count.
+#[tactic(auto, using(text::proofs::Behind::behind), unfolding(crate::specs::Lines::controls_text))]
 fn put_controls(out: &mut [u8], at: usize, k: Controls) -> usize
     requires { at + length (controls_text k) ≤ length out.old }
     ensures { written result out.new ≡ written_of out.old at (controls_text k) }
 {
-    let letters = flag_letters(k);
-    let a = text::put_bytes(out, at, &letters);
-    out[a] = b' ';
-    let b = text::put_hex8(out, a + 1, k.ppc);
-    out[b] = b' ';
-    let c = text::put_hex8(out, b + 1, k.pc);
-    out[c] = b' ';
-    text::put_signed(out, c + 1, k.raw.0)
+    let a = text::put_bytes(out, at, &flag_letters(k));
+    let b = text::put_bytes(out, a, b" ");
+    let c = text::put_hex::<8>(out, b, k.ppc);
+    let d = text::put_bytes(out, c, b" ");
+    let e = text::put_hex::<8>(out, d, k.pc);
+    let f = text::put_bytes(out, e, b" ");
+    text::put_signed(out, f, k.raw.0)
 }
 
 fn put_retirement(out: &mut [u8], at: usize, r: Retirement) -> usize
@@ -45,9 +49,9 @@ fn put_retirement(out: &mut [u8], at: usize, r: Retirement) -> usize
     ensures { written result out.new ≡ written_of out.old at (retirement_text r) }
 {
     let a = text::put_bytes(out, at, b"retirement ");
-    let b = text::put_hex4(out, a, r.op);
-    out[b] = b' ';
-    put_controls(out, b + 1, r.controls)
+    let b = text::put_hex::<4>(out, a, r.op as u32);
+    let c = text::put_bytes(out, b, b" ");
+    put_controls(out, c, r.controls)
 }
 
 // What is printed of a record behind its place.
@@ -70,10 +74,9 @@ pub fn put_record(out: &mut [u8], at: usize, place: usize, e: Event) -> usize
     ensures { written result out.new ≡ written_of out.old at (record_line place e) }
 {
     let a = text::put_decimal(out, at, place as u64);
-    out[a] = b' ';
-    let b = put_text(out, a + 1, e);
-    out[b] = b'\n';
-    b + 1
+    let b = text::put_bytes(out, a, b" ");
+    let c = put_text(out, b, e);
+    text::put_bytes(out, c, b"\n")
 }
 
 // The names of the columns.
@@ -93,6 +96,5 @@ pub fn put_end(out: &mut [u8], at: usize, size: usize) -> usize
 {
     let a = text::put_bytes(out, at, b"end ");
     let b = text::put_decimal(out, a, size as u64);
-    out[b] = b'\n';
-    b + 1
+    text::put_bytes(out, b, b"\n")
 }

@@ -5,13 +5,12 @@
 --                  taken, user mode), and the two clears
 --   Board      ==  a profile, which says what each opcode is to the pairing window (class word, uses and defs), and a
 --                  cache
-use Rattle.std.specs.Prelude.{ℕ, Bool}
-use Rattle.branch_cache.specs.declared.slot.Predicted.{Predicted}
+use Rattle.std.specs.Prelude.{ℕ, Bool, Option}
 use Rattle.window.specs.declared.dispatch.Instruction.{Instruction}
 
 pub record CacheRule : Type 1 where
   pub Cache : Type 0
-  pub predict : Cache → ℕ → Predicted
+  pub predict : Cache → ℕ → Option Bool
   pub update : Cache → ℕ → Bool → Bool → Cache
   pub clear_all : Cache → Cache
   pub clear_user : Cache → Cache

@@ -2,7 +2,6 @@
 -- cycles_060, break_060_pipeline, clear_all, clear_user.
 --
 --   State             ==  a cache and a window
---   heard p           ==  what the cache predicted, as an answer
 --   consults i k      ==  a branch asks the cache: not "With EBC off or the fetch uncached"
 --   answer_of c i k   ==  the cache's answer
 --   cache_after       ==  the cache after a retirement
@@ -30,14 +29,12 @@
 --                         "the number of retirements"
 use Rattle.std.specs.Prelude.{ℕ, suc, ◌+◌, Bool, not, cond, ◌&&◌, List, [], ◌∷◌, map}
 use Rattle.class_word.specs.Word.{has, BRANCH}
-use Rattle.branch_cache.specs.declared.slot.Predicted.{Predicted}
-use Rattle.branch_cache.specs.declared.slot.Predicted.TheVariants as P
 use Rattle.window.specs.declared.dispatch.Instruction.{Instruction}
 use Rattle.window.specs.declared.dispatch.Controls.{Controls}
 use Rattle.window.specs.declared.Window.{Window}
 use Rattle.cost.specs.declared.branch.Answer.{Answer}
-use Rattle.cost.specs.declared.branch.Answer.TheVariants.{NotConsulted, Miss, PredictedNotTaken, PredictedTaken}
-use Rattle.cost.specs.Branch.{taken_of}
+use Rattle.cost.specs.declared.branch.Answer.TheVariants.{NotConsulted}
+use Rattle.cost.specs.Branch.{taken_of, heard}
 use Rattle.cost.specs.Retiring.{Retiring, retiring}
 use Rattle.window.specs.Windows.{shut, seen}
 use Rattle.cost.specs.Cost.{cost_of, window_of, predicted_of}
@@ -49,11 +46,6 @@ use Rattle.state.specs.Board.{CacheRule, Board}
 pub record State (K : CacheRule) : Type 0 where
   pub cache : K.Cache
   pub window : Window
-
-abbrev pub heard : Predicted → Answer
-heard P.Miss = Miss
-heard P.NotTaken = PredictedNotTaken
-heard P.Taken = PredictedTaken
 
 abbrev pub consults : Instruction → Controls → Bool
 consults i k = has i.word.0 BRANCH && (k.ebc && k.cached)

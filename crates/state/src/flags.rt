@@ -6,13 +6,6 @@ ghost use Rattle.state.specs.Flags.{controls_of, control_flags_of, retirement_of
 use crate::Retirement;
 use window::{Controls, RawCount};
 
-// The number of a yes or no.
-pub fn number(b: bool) -> u16
-    ensures { result ≡ num b }
-{
-    if b { 1 } else { 0 }
-}
-
 fn flag(flags: u16, n: u16) -> bool
     requires { n < 16 }
     ensures { result ≡ bit n flags }
@@ -40,7 +33,7 @@ pub fn controls_of(flags: u16, ppc: u32, pc: u32, raw: RawCount) -> Controls
 pub fn packed_below(b: bool, above: u16) -> u16
     ensures { result ≡ num b + 2 * (above % 32768) }
 {
-    above << 1 | number(b)
+    above << 1 | u16::from(b)
 }
 
 pub fn control_flags(k: Controls) -> u16

@@ -1,8 +1,8 @@
 // Part 5 of document 01: the state that a host keeps, and what can happen to it.
 //
 // A state is a cache and a window; here are its breaks and clears by value, and a retirement is done in `step`.
-// `answers` says whether a retirement asks the cache, and what it hears, for `step` and `in_place`; `flags` makes a
-// retirement of the numbers that a host passes, and numbers of it again.
+// `answers` says whether a retirement asks the cache, for `step` and `in_place`; `flags` makes a retirement of the
+// numbers that a host passes, and numbers of it again.
 #![tactic(auto)]
 
 mod answers;
@@ -11,11 +11,11 @@ mod flags;
 ghost use Rattle.std.specs.Prelude.{◌≡◌};
 ghost use Rattle.state.specs.Timing.{seen_of, broken_of, cleared_of, user_cleared_of, fresh_of};
 
-pub use answers::{answer_of, consulted};
+pub use answers::consulted;
 use branch_cache::BranchCache060;
 use class_word::Clocks;
 use cost::Answer;
-pub use flags::{control_flags, controls_of, number, packed_below, retirement_of};
+pub use flags::{control_flags, controls_of, packed_below, retirement_of};
 use window::{Controls, Window};
 
 // A retired instruction as the host passes it.
@@ -55,42 +55,47 @@ impl Oep060Timing {
     pub fn fresh() -> Self
         ensures { result ≡ fresh_of }
     {
-        let cache = BranchCache060::fresh();
-        let window = Window::shut();
-        Oep060Timing { cache, window }
+        Oep060Timing {
+            cache: BranchCache060::fresh(),
+            window: Window::shut(),
+        }
     }
 
     // As every entry point reads it: a shut window has zeros.
     pub fn seen(self) -> Self
         ensures { result ≡ seen_of self }
     {
-        let cache = self.cache;
-        let window = self.window.seen();
-        Oep060Timing { cache, window }
+        Oep060Timing {
+            cache: self.cache,
+            window: self.window.seen(),
+        }
     }
 
     // The rule of break_060_pipeline, by value.
     pub fn broken(self) -> Self
         ensures { result ≡ broken_of self }
     {
-        let cache = self.cache;
-        let window = Window::shut();
-        Oep060Timing { cache, window }
+        Oep060Timing {
+            cache: self.cache,
+            window: Window::shut(),
+        }
     }
 
     pub fn clear_all(self) -> Self
         ensures { result ≡ cleared_of self }
     {
-        let cache = self.cache.clear_all();
-        let window = self.window.seen();
-        Oep060Timing { cache, window }
+        Oep060Timing {
+            cache: self.cache.clear_all(),
+            window: self.window.seen(),
+        }
     }
 
     pub fn clear_user(self) -> Self
         ensures { result ≡ user_cleared_of self }
     {
-        let cache = self.cache.clear_user();
-        let window = self.window.seen();
-        Oep060Timing { cache, window }
+        Oep060Timing {
+            cache: self.cache.clear_user(),
+            window: self.window.seen(),
+        }
     }
 }

@@ -28,13 +28,15 @@ pub struct Chosen {
 }
 
 // What the cache says of a branch before it is updated.
+#[tactic(auto, unfolding(state::specs::Events::answer_of))]
 fn answered(cache: BranchCache060, i: Instruction, k: Controls) -> Answer
     ensures { result ≡ answer_of crate_cache cache i k }
 {
     if state::consulted(i, k) {
-        return state::answer_of(cache.predict(k.ppc));
+        Answer::from(cache.predict(k.ppc))
+    } else {
+        Answer::NotConsulted
     }
-    Answer::NotConsulted
 }
 
 // The window is noted, then shut; the cache is asked, and then updated.
@@ -48,15 +50,13 @@ fn branch_060(mut timing: Oep060Timing, i: Instruction, r: Retirement) -> Steppe
     timing.window = Window::shut();
     let predicted = answered(timing.cache, i, k);
     let charged = branch_cost_060(i.word.has(F_DBCC), taken, opened, predicted);
-    let cost = charged.cost;
-    let answer = charged.answer;
     if state::consulted(i, k) {
         timing.cache = timing.cache.update(k.ppc, taken, !k.supervisor);
     }
     Stepped {
         timing,
-        cost,
-        answer,
+        cost: charged.cost,
+        answer: charged.answer,
     }
 }
 
@@ -67,17 +67,15 @@ fn other_060(mut timing: Oep060Timing, i: Instruction, r: Retirement) -> Stepped
 {
     let k = r.controls;
     let charged = cost::charge_other(i, k, timing.window);
-    let cost = charged.cost;
-    if charged.heads {
-        timing.window = cost::as_head(r.op, i, k);
+    timing.window = if charged.heads {
+        cost::as_head(r.op, i, k)
     } else {
-        timing.window = Window::shut();
-    }
-    let answer = Answer::NotConsulted; // only a branch asks the cache
+        Window::shut()
+    };
     Stepped {
         timing,
-        cost,
-        answer,
+        cost: charged.cost,
+        answer: Answer::NotConsulted, // only a branch asks the cache
     }
 }
 
@@ -102,7 +100,8 @@ pub fn cycles_060(chosen: Chosen, r: Retirement) -> Stepped
     let profile = chosen.profile;
     let i = looked_up(profile, r.op);
     if i.word.has(F_BRANCH) {
-        return branch_060(chosen.timing, i, r);
+        branch_060(chosen.timing, i, r)
+    } else {
+        other_060(chosen.timing, i, r)
     }
-    other_060(chosen.timing, i, r)
 }

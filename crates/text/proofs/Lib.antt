@@ -1,3 +1,5 @@
 pub mod Writing
 pub mod Digits
 pub mod Signs
+mod HexDigits
+pub mod Behind

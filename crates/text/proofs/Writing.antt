@@ -1,13 +1,13 @@
 -- Text put behind text is both put together.
 -- Assumes nothing.
-use Prim.Native.Nat.{ℕ, ◌+◌, ◌≤◌, ◌<◌}
+use Prim.Native.Nat.{ℕ, ◌+◌, ◌-◌, ◌≤◌, ◌<◌}
 use mathlib.Core.Path.{◌≡◌, refl, sym, ap, ◌∙◌}
-use mathlib.Core.List.{List, [], ◌∷◌, ◌++◌}
+use mathlib.Core.List.{List, [], ◌∷◌, ◌++◌, append_assoc}
 use native.Mathlib.Nat.{add-zero}
 use native.Mathlib.Omega.{arith}
-use native.Mathlib.Numerals.{add-one}
-use lib.ListN.{length, take, drop, get_or, set, length-set, length-append}
-use lib.Seq.{length-take-le, take-suc}
+use lib.ListN.{length, take, drop, set, length-set, length-append}
+use borrow.Rule.Slice.PartMut.{put_mid}
+use lib.Seq.{length-take-le, drop-drop}
 use Rattle.little_endian.specs.Numbers.{put_at}
 use Rattle.little_endian.proofs.Numbers.{put_length, put_joins}
 use Rattle.text.specs.Written.{Written, written, written_of}
@@ -17,6 +17,14 @@ pub written_none : (lent : List ℕ) (at : ℕ) → written_of lent at [] ≡ wr
 unfolding written_of
 written_none lent at = rw (add-zero at, put_none lent at)
 
+-- text put over as many of the lent bytes
+pub put_whole : (lent : List ℕ) (at : ℕ) (text : List ℕ)
+    → written (at + length text) (put_mid at (at + length text - at) lent text) ≡ written_of lent at text
+unfolding written_of put_at
+put_whole lent at text =
+    let k : at + length text - at ≡ length text = omega arith in
+    rw (k, drop-drop (length text) at lent, ← append_assoc) refl
+
 -- one more character behind text
 pub put_more : (s : List ℕ) (at : ℕ) (text : List ℕ) (x : ℕ) → at + length text < length s
     → set (put_at s at text) (at + length text) x ≡ put_at s at (text ++ x ∷ [])
@@ -24,13 +32,6 @@ put_more s at text x h =
     let room : at + length text ≤ length s = omega arith in
     set_puts (put_at s at text) (at + length text) x (omega (arith, put_length s at text room))
     ∙ put_joins s at text room (x ∷ [])
-
--- one more of the characters of a text
-pub put_take : (s : List ℕ) (at : ℕ) (text : List ℕ) (i : ℕ) → at + length text ≤ length s → i < length text
-    → set (put_at s at (take i text)) (at + i) (get_or text i 0) ≡ put_at s at (take (i + 1) text)
-put_take s at text i room h =
-    let l : length (take i text) ≡ i = length-take-le i text (omega arith) in
-    rw (add-one, take-suc text i 0 h) (rw l at (put_more s at (take i text) (get_or text i 0) (omega arith)))
 
 -- what was written so far: the place behind it, the bytes, and that none came or went
 pub record Wrote (lent : List ℕ) (at : ℕ) (text : List ℕ) (next : ℕ) (after : List ℕ) : Type 0 where

@@ -1,36 +1,28 @@
 // Hexadecimal digits as the tools print them.
 ghost use Rattle.std.specs.Prelude.{◌≡◌, ◌%◌};
-ghost use Rattle.text.specs.Hex.{hex_digit, hex_of, hex_byte_of};
+ghost use Rattle.text.specs.Hex.{hex_digit, hex_digits};
 
 // The upper-case hexadecimal digit of the low four bits.
-pub fn hex_digit(n: u16) -> u8
+fn hex_digit(n: u32) -> u8
     ensures { result ≡ hex_digit (n % 16) }
 {
-    let low = n % 16;
+    let low = (n % 16) as u8;
     if low < 10 {
-        48 + low as u8
+        b'0' + low
     } else {
-        55 + low as u8
+        b'A' + (low - 10)
     }
 }
 
-// The four upper-case hexadecimal digits of a word.
-pub fn hex4(word: u16) -> [u8; 4]
-    ensures { result ≡ hex_of word }
+// So many upper-case hexadecimal digits of a number, its last one at the end.
+pub fn hex_digits<const DIGITS: usize>(n: u32) -> [u8; DIGITS]
+    ensures { result ≡ hex_digits DIGITS n }
 {
-    let d3 = hex_digit(word / 4096);
-    let d2 = hex_digit(word / 256);
-    let d1 = hex_digit(word / 16);
-    let d0 = hex_digit(word);
-    [d3, d2, d1, d0]
-}
-
-// The two upper-case hexadecimal digits of a byte.
-pub fn hex2(byte: u8) -> [u8; 2]
-    ensures { result ≡ hex_byte_of byte }
-{
-    let word = byte as u16;
-    let d1 = hex_digit(word / 16);
-    let d0 = hex_digit(word);
-    [d1, d0]
+    let mut digits = [b'0'; DIGITS];
+    let mut rest = n;
+    for i in (0..DIGITS).rev() {
+        digits[i] = hex_digit(rest);
+        rest /= 16;
+    }
+    digits
 }

@@ -19,8 +19,8 @@ use Rattle.state.specs.Timing.{seen_of}
 use Rattle.step.specs.Boards.{stepped_of, after_of}
 use Rattle.refusals.specs.declared.Refusal.{Refusal}
 use Rattle.refusals.specs.Runs.{Runs}
-use Rattle.records.specs.declared.record.Read.TheVariants.{Got, Bad, End}
-use Rattle.records.specs.Record.{read_at}
+use Rattle.std.specs.Prelude.{Err}
+use Rattle.records.specs.Record.{got, ended, read_at}
 use Rattle.records.specs.Trace.{ahead, read_from}
 use Rattle.records.specs.Judged.{Fits, FitsAnswers}
 use Rattle.records.proofs.Walking.{got_within, from_end, from_bad, from_got}
@@ -55,17 +55,17 @@ going_start P trace lent t e f a =
     }
 
 module _ {P : Profile} {trace : List ℕ} {lent₀ : Runs} {t₀ : Oep060Timing} {lent : Runs} {at k sum : ℕ} {t : Oep060Timing} (g : Going P trace lent₀ t₀ lent at k sum t) where
-  pub going_end : read_at trace at ≡ End → trace_outcome (ran_at k sum t) lent ≡ trace_outcome_of P (read_from trace 0) lent₀ t₀
+  pub going_end : read_at trace at ≡ ended → trace_outcome (ran_at k sum t) lent ≡ trace_outcome_of P (read_from trace 0) lent₀ t₀
   going_end q = sym (run_end P lent k sum t) ∙ sym (ap (outcome_from P lent k sum t) (from_end trace at q)) ∙ g.leads
 
   -- so the total fits 64 bits: a trace of 16,777,216 bytes has 838,860 retirements at most
   pub going_total : length trace ≤ 16777216 → {n : ℕ} → n < 2 ^ 32 → sum + n < 2 ^ 64
   going_total h l = omega (arith, g.few, g.inside, g.small)
 
-  pub going_bad : (refusal : Refusal) → read_at trace at ≡ Bad refusal → ⊥
+  pub going_bad : (refusal : Refusal) → read_at trace at ≡ Err refusal → ⊥
   going_bad refusal q = subst (Fits k (length lent.costs)) (from_bad trace at refusal q) g.fits
 
-  module _ (e : Event) (next : ℕ) (q : read_at trace at ≡ Got e next) where
+  module _ (e : Event) (next : ℕ) (q : read_at trace at ≡ got e next) where
     fits_here : Fits k (length lent.costs) (ahead e (read_from trace next))
     fits_here = subst (Fits k (length lent.costs)) (from_got trace at e next q) g.fits
 
@@ -96,9 +96,9 @@ module _ {P : Profile} {trace : List ℕ} {lent₀ : Runs} {t₀ : Oep060Timing}
               ∙ g.leads);
         }
 
-  module _ {e : Event} {next : ℕ} (q : read_at trace at ≡ Got e next) {r : Retirement} (told : e ≡ Retired r) where
-    retired : read_at trace at ≡ Got (Retired r) next
-    retired = q ∙ ap (λ (x : Event). Got x next) told
+  module _ {e : Event} {next : ℕ} (q : read_at trace at ≡ got e next) {r : Retirement} (told : e ≡ Retired r) where
+    retired : read_at trace at ≡ got (Retired r) next
+    retired = q ∙ ap (λ (x : Event). got x next) told
 
     pub going_room : (k * 4 + 4 ≤ length lent.costs) × (k < length lent.answers)
     going_room =

@@ -19,7 +19,7 @@ use Rattle.state.specs.Events.{State, retiring_of, after, retirements, finally, 
 use Rattle.state.specs.CrateCache.{crate_cache}
 use Rattle.step.specs.Boards.{board_of}
 use Rattle.state.specs.Timing.{state_of, timing_of, seen_of}
-use Rattle.refusals.specs.declared.Verdict.TheVariants.{Accepted}
+use Rattle.refusals.specs.Verdict.{accepted}
 use Rattle.refusals.specs.Runs.{Runs, runs, rooms_of}
 use Rattle.trace.specs.Run.{cost_bytes, costs_of, answers_of, next_of, TraceOutcome, trace_outcome, run_trace_of}
 use Rattle.records.specs.TraceTable.{Accepts}
@@ -132,7 +132,7 @@ module _ (P : Profile) (a b : List ℕ) (l m : Runs) (t : Oep060Timing) {es fs :
   pub run_parts : run_trace_of P (a ++ b) both_runs t
       ≡ trace_outcome
       (record {
-        verdict = Accepted;
+        verdict = accepted;
         count = ran₁.ran.count + ran₂.ran.count;
         total = ran₁.ran.total + ran₂.ran.total;
         timing = ran₂.ran.timing;

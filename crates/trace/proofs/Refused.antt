@@ -9,7 +9,7 @@ use Rattle.profile.specs.declared.Profile.{Profile}
 use Rattle.state.specs.declared.Event.{Event}
 use Rattle.state.specs.declared.Oep060Timing.{Oep060Timing}
 use Rattle.refusals.specs.declared.Refusal.{Refusal}
-use Rattle.refusals.specs.declared.Verdict.TheVariants.{Refused}
+use Rattle.std.specs.Prelude.{Err}
 use Rattle.refusals.specs.Refused.{refused_of}
 use Rattle.refusals.specs.Runs.{Runs, rooms_of}
 use Rattle.records.specs.Trace.{Trace, events, refused}
@@ -32,7 +32,7 @@ module _ (P : Profile) (trace : List ℕ) (lent : Runs) (t : Oep060Timing) where
   unfolding run_trace_of
   run_accepted h = rw (accepts_then trace (rooms_of lent) h)
 
-  by_refusal : {refusal : Refusal} (x : Trace) → (trace_outcome_of P x lent t).ran.verdict ≡ Refused refusal → x ≡ refused refusal
+  by_refusal : {refusal : Refusal} (x : Trace) → (trace_outcome_of P x lent t).ran.verdict ≡ Err refusal → x ≡ refused refusal
   by_refusal (events es) h = cc
   by_refusal (refused other) h = cc
 

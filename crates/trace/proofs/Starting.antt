@@ -11,7 +11,7 @@ use Rattle.state.specs.Events.{State, costs, answers, finally, total, count_of}
 use Rattle.state.specs.CrateCache.{crate_cache}
 use Rattle.step.specs.Boards.{board_of}
 use Rattle.state.specs.Timing.{state_of, timing_of, timing_at, seen_of}
-use Rattle.refusals.specs.declared.Verdict.TheVariants.{Refused}
+use Rattle.std.specs.Prelude.{Err}
 use Rattle.refusals.specs.Runs.{Runs, runs}
 use Rattle.little_endian.specs.Numbers.{put_at}
 use Rattle.in_place.specs.WindowNumbers.{window_at, numbers_of}
@@ -36,4 +36,4 @@ outcome_seen P (events es) lent t e =
     (state_seen (board_of P) (state_of t))
 outcome_seen P (refused refusal) lent t e =
     ap (trace_outcome_of P (refused refusal) lent) e
-    ∙ ap (λ (s : State crate_cache). trace_outcome (record { verdict = Refused refusal; count = 0; total = 0; timing = timing_of s }) lent) (state_seen (board_of P) (state_of t))
+    ∙ ap (λ (s : State crate_cache). trace_outcome (record { verdict = Err refusal; count = 0; total = 0; timing = timing_of s }) lent) (state_seen (board_of P) (state_of t))

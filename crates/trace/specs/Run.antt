@@ -17,9 +17,10 @@
 --                                       cost stay", and those beyond the last answer
 --   trace_outcome_of p said lent t  ==  the outcome by what the trace said
 --                                       "A refused run or batch .. writes no byte"
+--   RoomFor trace lent              ==  the trace is within its limit and sound, and both lent runs have room for it
 --   run_trace_of p trace lent t     ==  the outcome of a run of the trace into the lent bytes, both runs, from the
 --                                       state t
-use Rattle.std.specs.Prelude.{ℕ, List}
+use Rattle.std.specs.Prelude.{ℕ, ◌≤◌, List, length}
 use Rattle.little_endian.specs.Numbers.{put_at, bytes_of_each}
 use Rattle.profile.specs.declared.Profile.{Profile}
 use Rattle.state.specs.declared.Event.{Event}
@@ -27,12 +28,12 @@ use Rattle.state.specs.declared.Oep060Timing.{Oep060Timing}
 use Rattle.state.specs.Events.{costs, answers, finally, total, count_of}
 use Rattle.step.specs.Boards.{board_of}
 use Rattle.state.specs.Timing.{state_of, timing_of, seen_of}
-use Rattle.refusals.specs.declared.Verdict.TheVariants.{Accepted}
+use Rattle.refusals.specs.Verdict.{accepted}
 use Rattle.refusals.specs.declared.outcome.Ran.{Ran}
 use Rattle.refusals.specs.Refused.{refused_of}
 use Rattle.refusals.specs.Runs.{Runs, runs, rooms_of}
-use Rattle.records.specs.Trace.{Trace, events, refused}
-use Rattle.records.specs.Judged.{judged_trace}
+use Rattle.records.specs.Trace.{Trace, events, refused, read_trace}
+use Rattle.records.specs.Judged.{Fits, FitsAnswers, judged_trace}
 
 abbrev pub cost_bytes : List ℕ → List ℕ
 cost_bytes ns = bytes_of_each 4 ns
@@ -54,7 +55,7 @@ abbrev pub trace_outcome : Ran → Runs → TraceOutcome
 trace_outcome r lent = record { ran = r; lent = lent }
 
 abbrev pub ran_at : ℕ → ℕ → Oep060Timing → Ran
-ran_at k sum t = record { verdict = Accepted; count = k; total = sum; timing = t }
+ran_at k sum t = record { verdict = accepted; count = k; total = sum; timing = t }
 
 abbrev pub trace_accepted_of : Profile → List Event → Runs → Oep060Timing → TraceOutcome
 trace_accepted_of p es lent t =
@@ -65,6 +66,11 @@ trace_accepted_of p es lent t =
 abbrev pub trace_outcome_of : Profile → Trace → Runs → Oep060Timing → TraceOutcome
 trace_outcome_of p (events es) lent t = trace_accepted_of p es lent t
 trace_outcome_of p (refused refusal) lent t = trace_outcome (refused_of refusal t) lent
+
+pub record RoomFor (trace : List ℕ) (lent : Runs) : Type 0 where
+  pub size : length trace ≤ 16777216
+  pub fits : Fits 0 (length lent.costs) (read_trace trace)
+  pub tells : FitsAnswers 0 (length lent.answers) (read_trace trace)
 
 unfoldable pub run_trace_of : Profile → List ℕ → Runs → Oep060Timing → TraceOutcome
 run_trace_of p trace lent t = trace_outcome_of p (judged_trace trace (rooms_of lent)) lent t

@@ -5,16 +5,13 @@
 --   turned r l           ==  these two
 --   turn_for p l next e  ==  the turn of the event e in the profile p, with the place after its record
 --   turn_of p at l read  ==  the turn of what was read at the place `at`; where it is no event, nothing is done
-use Rattle.std.specs.Prelude.{ℕ, [], ◌∷◌}
+use Rattle.std.specs.Prelude.{ℕ, Err, None, Ok, Some}
 use Rattle.profile.specs.declared.Profile.{Profile}
 use Rattle.state.specs.declared.Event.{Event}
-use Rattle.class_word.specs.Word.{clocks}
 use Rattle.in_place.specs.Lent.{Lent}
-use Rattle.in_place.specs.Retire.{paid_for}
-use Rattle.records.specs.declared.record.Read.{Read}
-use Rattle.records.specs.declared.record.Read.TheVariants.{Got, Bad, End}
+use Rattle.in_place.specs.Retire.{event_at_of, paid_for}
+use Rattle.records.specs.Record.{Read}
 use Rattle.trace.specs.declared.running.Turn.{Turn}
-use Rattle.state.specs.Events.{count_of}
 
 pub record Turned : Type 0 where
   pub turn : Turn
@@ -24,16 +21,9 @@ abbrev pub turned : Turn → Lent → Turned
 turned turn l = record { turn = turn; lent = l }
 
 abbrev pub turn_for : Profile → Lent → ℕ → Event → Turned
-turn_for p l next e = turned
-    (record {
-      next = next;
-      count = count_of (e ∷ []);
-      cost = (paid_for p l e).cost;
-      answer = (paid_for p l e).answer;
-    })
-    (paid_for p l e).lent
+turn_for p l next e = turned (record { next = next; paid = paid_for p l e }) (event_at_of p l e)
 
 abbrev pub turn_of : Profile → ℕ → Lent → Read → Turned
-turn_of p at l (Got e next) = turn_for p l next e
-turn_of p at l (Bad refusal) = turned (record { next = at; count = 0; cost = clocks 0; answer = 0 }) l
-turn_of p at l End = turned (record { next = at; count = 0; cost = clocks 0; answer = 0 }) l
+turn_of p at l (Ok (Some (e, next))) = turn_for p l next e
+turn_of p at l (Ok None) = turned (record { next = at; paid = None }) l
+turn_of p at l (Err refusal) = turned (record { next = at; paid = None }) l

@@ -7,33 +7,19 @@
 #![tactic(auto)]
 
 use explaining::WHY_ROOM;
-use input::{Input, Request};
-use profile::Profile;
+use input::Request;
 use state::Oep060Timing;
 use std::io;
 
-fn explain(rt: &(impl io::Input + Print + Eprint), full: bool, profile: Profile) -> io::Result<()> {
+fn main(rt: HostRuntime) -> io::Result<()> {
+    let Some(Request { full, profile }) = input::read_words(&rt) else {
+        return eprintln!(rt; "why: the words are [full] [crate|mended]");
+    };
     // One byte more than is taken, so that longer input is seen to be longer.
     let mut bytes = [0u8; 65537];
-    match input::read_input(rt, &mut bytes) {
-        Input::Unreadable => eprintln!(rt; "why: standard input cannot be read"),
-        Input::Taken(n) => {
-            let mut text = [0u8; WHY_ROOM];
-            let len = explaining::why_text(
-                &bytes[..n],
-                &mut text,
-                Oep060Timing::fresh(),
-                profile,
-                full,
-            );
-            rt.write_all(&text[..len])
-        }
-    }
-}
-
-fn main(rt: HostRuntime) -> io::Result<()> {
-    match input::read_words(&rt) {
-        Request::Asks(full, profile) => explain(&rt, full, profile),
-        Request::Unclear => eprintln!(rt; "why: the words are [full] [crate|mended]"),
-    }
+    input::on_input(&rt, "why", &mut bytes, |trace| {
+        let mut text = [0u8; WHY_ROOM];
+        let len = explaining::why_text(trace, &mut text, Oep060Timing::fresh(), profile, full);
+        rt.write_all(&text[..len])
+    })
 }

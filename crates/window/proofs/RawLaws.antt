@@ -1,17 +1,16 @@
 -- The fallback by the quotient that the code computes, its least and its largest value.
 -- Assumes nothing.
 use mathlib.Core.Path.{◌≡◌, refl, sym}
-use mathlib.Core.Bool.{true, false, true≢false}
 use mathlib.Core.List.{[], ◌∷◌, map}
 use Prim.Native.Nat.{ℕ, zero, suc, ◌/◌, ◌<◌, ◌≤◌}
 use native.Mathlib.Omega.{arith}
-use native.Mathlib.Nat.{max-eq_left, max-eq_right}
+use native.Mathlib.Nat.{max-eq_left}
 use lib.IntN.{ℤ, pos, negsuc, neg_ℤ, nat_abs}
-use lib.Signed.{lt_z, non_neg, quot_z}
-use lib.Dec.{T}
-use mir.Val.{SFits, Fits}
+use lib.Signed.{quot_z}
+use mir.Val.{SFits}
 use mir.Syntax.{w32}
-use borrow.Author.Tests.{ltb-true, ltb-false}
+use borrow.Author.Tests.{le-leb}
+use Rattle.std.specs.Int.{int_max}
 use Rattle.window.specs.Raw.{quarter, at_least_one, fallback_of}
 
 -- the quotient of a raw count is a raw count
@@ -27,26 +26,20 @@ none : (m : ℕ) → 1 ≡ at_least_one (neg_ℤ (pos m))
 none zero = refl
 none (suc m) = refl
 
--- a quotient below 1 is raised to 1
-pub quotient_below : (z : ℤ) → lt_z (quot_z z (pos 4)) (pos 1) ≡ true → 1 ≡ fallback_of z
+-- the larger of the quotient and 1
+pub at_least_one_is : (z : ℤ) → nat_abs (int_max (quot_z z (pos 4)) (pos 1)) ≡ fallback_of z
 unfolding fallback_of
-quotient_below (pos n) e = sym (max-eq_right (omega (arith, ltb-true (n / 4) 1 e)))
-quotient_below (negsuc n) e = none (suc n / 4)
+at_least_one_is z = go z
+  where
+    one : (q : ℤ) → nat_abs (int_max q (pos 1)) ≡ at_least_one q
+    one (pos zero) = refl
+    one (pos (suc zero)) = refl
+    one (pos (suc (suc n))) = rw (le-leb 2 (suc (suc n)) (omega arith)) (sym (max-eq_left (omega arith)))
+    one (negsuc n) = refl
 
-never : (m : ℕ) → lt_z (neg_ℤ (pos m)) (pos 1) ≡ false → ⊥
-never zero e = true≢false e
-never (suc m) e = true≢false e
-
--- any other is a number of clocks
-pub quotient_casts : (z : ℤ) → SFits w32 z → lt_z (quot_z z (pos 4)) (pos 1) ≡ false
-    → T (non_neg (quot_z z (pos 4))) × Fits w32 (nat_abs (quot_z z (pos 4)))
-quotient_casts (pos n) h e = (tt, omega (arith, h.sfits))
-quotient_casts (negsuc n) h e = absurd (never (suc n / 4) e)
-
-pub quotient_stays : (z : ℤ) → lt_z (quot_z z (pos 4)) (pos 1) ≡ false → nat_abs (quot_z z (pos 4)) ≡ fallback_of z
-unfolding fallback_of
-quotient_stays (pos n) e = sym (max-eq_left (omega (arith, ltb-false (n / 4) 1 e)))
-quotient_stays (negsuc n) e = absurd (never (suc n / 4) e)
+    go : (z : ℤ) → nat_abs (int_max (quot_z z (pos 4)) (pos 1)) ≡ at_least_one (quarter z)
+    go (pos n) = one (pos (n / 4))
+    go (negsuc n) = one (neg_ℤ (pos (suc n / 4)))
 
 pub fallback_least : (z : ℤ) → 1 ≤ fallback_of z
 unfolding fallback_of

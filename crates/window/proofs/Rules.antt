@@ -13,7 +13,7 @@ use Rattle.window.specs.declared.dispatch.Controls.{Controls}
 use Rattle.window.specs.declared.Window.{Window}
 use Rattle.window.specs.declared.dispatch.Rule.{Rule}
 use Rattle.window.specs.declared.dispatch.Rule.TheVariants.{EssOn, BothCached, Simple, RegistersFree, NoLateCcr, OneMemory}
-use Rattle.window.specs.declared.dispatch.Dispatch.TheVariants.{Fails}
+use Rattle.std.specs.Prelude.{Some}
 use Rattle.window.specs.Dispatch.{is_simple, rules, holds, first_failing, failing, is_passed, passes}
 
 abbrev pub All : {A : Type 0} → (A → Bool) → List A → Type 0
@@ -25,7 +25,7 @@ unfolding first_failing
 none_fails h [] e = tt
 none_fails h (a ∷ l) e = go (h a) refl e (none_fails h l)
   where
-    go : (b : Bool) → h a ≡ b → is_passed (cond b (first_failing h l) (Fails a)) ≡ true → (is_passed (first_failing h l) ≡ true → All h l)
+    go : (b : Bool) → h a ≡ b → is_passed (cond b (first_failing h l) (Some a)) ≡ true → (is_passed (first_failing h l) ≡ true → All h l)
         → (h a ≡ true) × All h l
     go true p q k = (p, k q)
     go false p q k = absurd (true≢false (sym q))

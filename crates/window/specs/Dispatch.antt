@@ -8,13 +8,12 @@
 --   second_memory word w  ==  "memory behind memory"
 --   Rule, rules           ==  the six rules, the enum of the code, and their list in document 01's order
 --   holds i k w rule      ==  the rule holds; over each line, document 01's words
---   Dispatch              ==  none fails, `Passes`, or one, `Fails rule`: the enum of the code
 --   first_failing h l     ==  the first of the list l of which h does not hold, if there is one
 --   failing i k w         ==  the first rule that fails, if there is one. Document 02's R-1 reads it too: "the first
 --                             dispatch rule that failed, in document 01's order"
 --   is_passed d           ==  there is none
 --   passes i k w          ==  the dispatch test passes: none fails
-use Rattle.std.specs.Prelude.{ℕ, Bool, true, false, not, cond, ◌&&◌, ◌||◌, List, [], ◌∷◌, eqb}
+use Rattle.std.specs.Prelude.{ℕ, Bool, true, false, not, cond, ◌&&◌, ◌||◌, List, [], ◌∷◌, eqb, Option, Some, None}
 use Rattle.std.specs.Int.Bits.{bit_or}
 use Rattle.bits.specs.Words.{meets}
 use Rattle.class_word.specs.Word.{
@@ -38,8 +37,6 @@ use Rattle.window.specs.declared.dispatch.Rule.TheVariants.{
   NoLateCcr,
   OneMemory,
 }
-use Rattle.window.specs.declared.dispatch.Dispatch.{Dispatch}
-use Rattle.window.specs.declared.dispatch.Dispatch.TheVariants.{Passes, Fails}
 use Rattle.window.specs.declared.Window.{Window}
 
 abbrev pub memory : ℕ → Bool
@@ -75,16 +72,16 @@ holds i k w NoLateCcr = not (late_ccr i.word.0 w)
 -- "not memory behind memory"
 holds i k w OneMemory = not (second_memory i.word.0 w)
 
-unfoldable pub first_failing : (Rule → Bool) → List Rule → Dispatch
-first_failing h [] = Passes
-first_failing h (rule ∷ l) = cond (h rule) (first_failing h l) (Fails rule)
+unfoldable pub first_failing : (Rule → Bool) → List Rule → Option Rule
+first_failing h [] = None
+first_failing h (rule ∷ l) = cond (h rule) (first_failing h l) (Some rule)
 
-unfoldable pub failing : Instruction → Controls → Window → Dispatch
+unfoldable pub failing : Instruction → Controls → Window → Option Rule
 failing i k w = first_failing (holds i k w) rules
 
-abbrev pub is_passed : Dispatch → Bool
-is_passed Passes = true
-is_passed (Fails rule) = false
+abbrev pub is_passed : Option Rule → Bool
+is_passed None = true
+is_passed (Some rule) = false
 
 abbrev pub passes : Instruction → Controls → Window → Bool
 passes i k w = is_passed (failing i k w)

@@ -11,7 +11,7 @@ use class_word::{
 };
 
 // What an instruction is to the pairing window.
-#[derive(Clone, Copy)]
+#[derive(Clone, Copy, PartialEq, Eq)]
 pub struct Instruction {
     pub word: Info060,
     // use_mask
@@ -44,21 +44,11 @@ pub enum Rule {
     OneMemory,
 }
 
-// What the dispatch test finds: the first rule that fails, or none.
-#[derive(Clone, Copy)]
-pub enum Dispatch {
-    Passes,
-    Fails(Rule),
-}
-
 // The instruction has a memory operand.
 pub fn memory(word: Info060) -> bool
     ensures { result ≡ memory word.0 }
 {
-    if word.has(F_READS_MEM) {
-        return true;
-    }
-    word.has(F_WRITES_MEM)
+    word.has(F_READS_MEM) || word.has(F_WRITES_MEM)
 }
 
 // Nothing that keeps an instruction of class 0 out of the second pipeline.
@@ -66,85 +56,60 @@ fn unhindered(word: Info060) -> bool
     ensures { result
         ≡ (not (has word.0 EA_INDEXED) && not (has word.0 UNCLASSIFIED) && not (has word.0 VARIABLE)) }
 {
-    if word.has(F_EA_INDEXED) {
-        return false;
-    }
-    if word.has(F_UNCLASSIFIED) {
-        return false;
-    }
-    if word.has(F_VARIABLE) {
-        return false;
-    }
-    true
+    !word.has(F_EA_INDEXED) && !word.has(F_UNCLASSIFIED) && !word.has(F_VARIABLE)
 }
 
 // Class 0 and nothing that keeps it out of the second pipeline.
+#[tactic(auto, unfolding(crate::specs::Dispatch::is_simple))]
 fn simple(word: Info060) -> bool
     ensures { result ≡ is_simple word.0 }
 {
-    let class = word.class();
-    if let OepClass::PoepSoep = class {
-        unhindered(word)
-    } else {
-        false
-    }
+    word.class() == OepClass::PoepSoep && unhindered(word)
 }
 
 // `ccr`: the head defines the CCR.
 fn late_ccr(word: Info060, ccr: bool) -> bool
     ensures { result ≡ (has word.0 USES_CCR_LATE && ccr) }
 {
-    if word.has(F_USES_CCR_LATE) {
-        return ccr;
-    }
-    false
+    word.has(F_USES_CCR_LATE) && ccr
 }
 
 // `mem`: the head accessed memory.
 fn second_memory(word: Info060, mem: bool) -> bool
     ensures { result ≡ (memory word.0 && mem) }
 {
-    if memory(word) {
-        return mem;
-    }
-    false
+    memory(word) && mem
 }
 
 // The first rule that fails, if one does: the dispatch test goes by it, and so do document 02's reasons.
-pub fn failing(i: Instruction, k: Controls, w: Window) -> Dispatch
+#[tactic(auto, unfolding(crate::specs::Dispatch::failing, crate::specs::Dispatch::first_failing, crate::specs::Dispatch::holds))]
+pub fn failing(i: Instruction, k: Controls, w: Window) -> Option<Rule>
     ensures { result ≡ failing i k w }
 {
     if !k.ess {
-        return Dispatch::Fails(Rule::EssOn);
+        return Some(Rule::EssOn);
     }
-    if !w.warm {
-        return Dispatch::Fails(Rule::BothCached);
-    }
-    if !k.cached {
-        return Dispatch::Fails(Rule::BothCached);
+    if !w.warm || !k.cached {
+        return Some(Rule::BothCached);
     }
     if !simple(i.word) {
-        return Dispatch::Fails(Rule::Simple);
+        return Some(Rule::Simple);
     }
     if (i.uses | i.defs) & w.defs != 0 {
-        return Dispatch::Fails(Rule::RegistersFree);
+        return Some(Rule::RegistersFree);
     }
     if late_ccr(i.word, w.ccr) {
-        return Dispatch::Fails(Rule::NoLateCcr);
+        return Some(Rule::NoLateCcr);
     }
     if second_memory(i.word, w.mem) {
-        return Dispatch::Fails(Rule::OneMemory);
+        return Some(Rule::OneMemory);
     }
-    Dispatch::Passes
+    None
 }
 
 // The first rule that fails refuses the pair.
 pub fn soep_dispatch_test(i: Instruction, k: Controls, w: Window) -> bool
     ensures { result ≡ passes i k w }
 {
-    let found = failing(i, k, w);
-    match found {
-        Dispatch::Passes => true,
-        Dispatch::Fails(_) => false,
-    }
+    failing(i, k, w).is_none()
 }

@@ -8,11 +8,11 @@ use crate::Window;
 pub fn break_060_pipeline(w: &mut Window)
     ensures { w.new ≡ shut }
 {
-    let s = Window::shut();
-    *w = s;
+    *w = Window::shut();
 }
 
 // The same for a caller with no lent window.
+// Stays by value: `promises/specs/ByHand.antt` speaks of it.
 pub fn break_in_place(w: Window) -> Window
     ensures { result ≡ shut }
 {

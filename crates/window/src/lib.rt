@@ -12,12 +12,13 @@ mod raw;
 ghost use Rattle.std.specs.Prelude.{◌≡◌};
 ghost use Rattle.window.specs.Windows.{shut, seen};
 
-pub use dispatch::{Controls, Dispatch, Instruction, Rule, failing, memory, soep_dispatch_test};
+pub use dispatch::{Controls, Instruction, Rule, failing, memory, soep_dispatch_test};
 pub use lent::{break_060_pipeline, break_in_place};
 pub use raw::{RawCount, fallback_cycles};
 
 // The Rust's Option<PendingHead060>: `opened` says whether there is a head; the other fields are the head's. The Rust
 // has no `op` and `address`: document 02's R-6 keeps them, and no cost looks at them.
+// Stays a flag beside values: a shut window with other fields set is lent by hosts, and `seen` speaks of it.
 #[derive(Clone, Copy)]
 pub struct Window {
     pub opened: bool,

@@ -9,16 +9,9 @@ use class_word::Clocks;
 #[derive(Clone, Copy)]
 pub struct RawCount(pub i32);
 
-// The least quarter that is passed on as it is.
-const LEAST: i32 = 1;
-
 // Truncated toward zero, at least 1.
 pub fn fallback_cycles(raw: RawCount) -> Clocks
     ensures { result ≡ clocks (fallback_of raw.0) }
 {
-    let quarter = raw.0 / 4;
-    if quarter < LEAST {
-        return Clocks(1);
-    }
-    Clocks(quarter as u32)
+    Clocks((raw.0 / 4).max(1) as u32)
 }

@@ -10,18 +10,14 @@ use std::io;
 use step::Chosen;
 use window::{Controls, RawCount};
 
-// A line: what was asked, and the clocks.
-fn show(rt: &impl Print, asked: &[u8], clocks: u32) -> io::Result<()> {
-    rt.write_all(asked)?;
-    println!(rt; "{clocks}")
+// A raw count, and the clocks that the fallback makes of it.
+fn fallback(rt: &impl Print, raw: i32) -> io::Result<()> {
+    let clocks = window::fallback_cycles(RawCount(raw));
+    println!(rt; "fallback {raw} {}", clocks.0)
 }
 
-fn fallback(rt: &impl Print, asked: &[u8], raw: i32) -> io::Result<()> {
-    show(rt, asked, window::fallback_cycles(RawCount(raw)).0)
-}
-
-// One retirement of RTS that flowed, from a fresh state, its fetch not cached.
-fn flowed(rt: &impl Print, asked: &[u8], raw: i32) -> io::Result<()> {
+// One retirement of RTS that flowed, from a fresh state, its fetch not cached: the raw count, and the clocks.
+fn flowed(rt: &impl Print, raw: i32) -> io::Result<()> {
     let controls = Controls {
         flowed: true,
         cached: false,
@@ -41,17 +37,15 @@ fn flowed(rt: &impl Print, asked: &[u8], raw: i32) -> io::Result<()> {
         profile: Profile::Crate,
     };
     let stepped = step::cycles_060(chosen, rts);
-    show(rt, asked, stepped.cost.0)
+    println!(rt; "flowed {raw} {}", stepped.cost.0)
 }
 
 fn main(rt: HostRuntime) -> io::Result<()> {
-    fallback(&rt, b"fallback -2147483648 ", -2147483648)?;
-    fallback(&rt, b"fallback -1 ", -1)?;
-    fallback(&rt, b"fallback 7 ", 7)?;
-    fallback(&rt, b"fallback 8 ", 8)?;
-    fallback(&rt, b"fallback 11 ", 11)?;
-    fallback(&rt, b"fallback 12 ", 12)?;
-    fallback(&rt, b"fallback 2147483647 ", 2147483647)?;
-    flowed(&rt, b"flowed 20 ", 20)?;
-    flowed(&rt, b"flowed 24 ", 24)
+    for raw in [i32::MIN, -1, 7, 8, 11, 12, i32::MAX] {
+        fallback(&rt, raw)?;
+    }
+    for raw in [20, 24] {
+        flowed(&rt, raw)?;
+    }
+    Ok(())
 }

@@ -18,10 +18,10 @@ use Rattle.explaining.proofs.put_table.Goals as goal
 
 module _ (p : Profile) (said : Trace) {t u : Oep060Timing} (so : t ≡ u) (full : Bool) (out : List ℕ) (start : ℕ) where
   -- the lines of the retirements as they are met from the state as it is read
-  lined : {put : Put} {after counts : List ℕ} → Lined full out start (met_by p t said) put after counts
-      → Lined full out start (met_by p u said) put after counts
-  lined {put} {after} {counts} l =
-      subst (λ (x : Oep060Timing). Lined full out start (met_by p x said) put after counts) so l
+  lined : {put : Put} {after : List ℕ} → Lined full out start (met_by p t said) put after
+      → Lined full out start (met_by p u said) put after
+  lined {put} {after} l =
+      subst (λ (x : Oep060Timing). Lined full out start (met_by p x said) put after) so l
 
   room : start + length (why_lines full 0 (met_by p u said)) ≤ length out
       → start + length (why_lines full 0 (met_by p t said)) ≤ length out

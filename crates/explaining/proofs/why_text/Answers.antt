@@ -8,18 +8,18 @@ use Rattle.explaining.proofs.why_text.Goals as goal
 
 pub put_table-requires : goal.put_table-requires
 put_table-requires c =
-    let v = sym c.judge_short-verdict.ensures ∙ c.in-Accepted.is in
+    let v = sym c.judge_short.ensures ∙ c.in-Ok.is in
     record {
       fits_answers = why_few c.args.full c.args.profile c.args.trace.now c.args.timing v;
       trace_in_bounds =
           omega (arith, why_room c.args.full c.args.profile c.args.trace.now c.args.timing v, c.well_formed);
     }
 
-pub returns-in-Refused : goal.returns-in-Refused
-returns-in-Refused c =
+pub returns-in-Err : goal.returns-in-Err
+returns-in-Err c =
     let said =
     why_refused c.args.full c.args.profile c.args.trace.now c.args.timing
-    (sym c.judge_short-verdict.ensures ∙ c.in-Refused.is) in
+    (sym c.judge_short.ensures ∙ c.in-Err.is) in
     let e = rw (← said) at c.put_refusal.ensures in
     record {
       text_after = e;
@@ -28,9 +28,9 @@ returns-in-Refused c =
           c.put_refusal.auto.out;
     }
 
-pub returns-in-Accepted : goal.returns-in-Accepted
-returns-in-Accepted c =
-    let v = sym c.judge_short-verdict.ensures ∙ c.in-Accepted.is in
+pub returns-in-Ok : goal.returns-in-Ok
+returns-in-Ok c =
+    let v = sym c.judge_short.ensures ∙ c.in-Ok.is in
     let e = rw (why_whole c.args.full c.args.profile c.args.trace.now c.args.timing v) at c.put_table.ensures in
     record {
       text_after = e;

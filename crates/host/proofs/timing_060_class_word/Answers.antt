@@ -15,5 +15,5 @@ returns c =
     let m = masks_of c.args.op in
     ap (λ (i : Instruction). i.word.0)
     (c.read_in.ensures
-    ∙ ap₂ (λ (x : Profile) (y : Info060). read_in x c.args.op (record { word = y; uses = 0; defs = 0 })) c.profile_at-p.ensures c.info_060-word.ensures)
+    ∙ ap₂ (λ (x : Profile) (y : Info060). read_in x c.args.op (record { word = y; uses = 0; defs = 0 })) c.from-p.ensures c.info_060-word.ensures)
     ∙ ap (λ (y : Info060). y.0) (word_apart c.args.op (info (classify_of c.args.op)) (info 0) 0 m.uses 0 m.defs (profile_at c.args.profile))

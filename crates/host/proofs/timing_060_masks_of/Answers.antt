@@ -21,7 +21,7 @@ returns c =
     let own = masks_of c.args.op in
     ap (λ (i : Instruction). pair i.uses i.defs)
     (c.read_in-read.ensures
-    ∙ ap₂ (λ (x : Profile) (y : RegMasks060). read_in x c.args.op (joined_of (info 0) y)) c.profile_at-p.ensures c.reg_masks_060-masks.ensures)
+    ∙ ap₂ (λ (x : Profile) (y : RegMasks060). read_in x c.args.op (joined_of (info 0) y)) c.from-p.ensures c.reg_masks_060-masks.ensures)
     ∙ ap₂ pair
     (uses_apart c.args.op (info 0) (info (classify_of c.args.op)) own.uses 0 own.defs 0 at)
     (defs_apart c.args.op (info 0) (info (classify_of c.args.op)) own.uses 0 own.defs 0 at)

@@ -16,6 +16,6 @@ use Rattle.in_place.proofs.retire.Goals as goal
 pub returns : goal.returns
 returns c =
     let raw = c.args.raw.0 in
-    (rw (to_z-of_z {w = w32} {z = c.args.raw.0} (search rules)) at (c.step_at.ensures.window_after (ap (λ (k : ℕ). meets k 2) c.number_of-number.ensures ∙ (asked_retire c.args.profile).0)))
+    (rw (to_z-of_z {w = w32} {z = c.args.raw.0} (search rules)) at (c.step_at.ensures.window_after (ap (λ (k : ℕ). meets k 2) c.from-number.ensures ∙ (asked_retire c.args.profile).0)))
     ∙ ap (λ (q : Profile). retire_at_of q (lent c.args.tags.now c.args.state.now c.args.window.now) (retirement_of c.args.op c.args.flags c.args.ppc c.args.pc c.args.raw))
-    (ap (λ (k : ℕ). profile_at (k % 2)) c.number_of-number.ensures ∙ (asked_retire c.args.profile).1)
+    (ap (λ (k : ℕ). profile_at (k % 2)) c.from-number.ensures ∙ (asked_retire c.args.profile).1)

@@ -19,4 +19,4 @@ returns c =
     let fits : FitsSigned w32 c.args.r.controls.raw.0 = search rules in
     let held = rw (← c.control_flags-flags.ensures) at (controls_held c.args.r.controls) in
     (rw (to_z-of_z {w = w32} {z = c.args.r.controls.raw.0} fits) at c.retire_at.ensures)
-    ∙ ap₂ (λ (x : Profile) (k : Controls). retire_at_of x l (record { op = c.args.r.op; controls = k })) (ap profile_at c.number_of-number.ensures ∙ profile_held c.args.profile) held
+    ∙ ap₂ (λ (x : Profile) (k : Controls). retire_at_of x l (record { op = c.args.r.op; controls = k })) (ap profile_at c.from-number.ensures ∙ profile_held c.args.profile) held

@@ -30,7 +30,7 @@ looked c =
       | then-asked-ne0+else-asked-ne0-2 w ↦
           w.i-is
           ∙ w.read_in-i.ensures
-          ∙ ap₂ (λ (p : Profile) (i : Instruction). read_in p c.args.op i) (w.profile_at-p.ensures ∙ ap profile_at (and_mask c.args.asked 1)) c.instruction_060-found.ensures
+          ∙ ap₂ (λ (p : Profile) (i : Instruction). read_in p c.args.op i) (w.from-p.ensures ∙ ap profile_at (and_mask c.args.asked 1)) c.instruction_060-found.ensures
       | else-asked-ne0 w ↦ w.i-is ∙ c.instruction_060-found.ensures ∙ by_crate c.args.asked c.args.op w.if-asked-ne0.false
     ]
 

@@ -1,7 +1,13 @@
--- `u32_at`: two numbers of two bytes, of which the second counts 65,536 times.
+-- `u32_at`: the bytes are the number's, the lowest first.
+use mathlib.Core.Path.{◌≡◌}
+use Prim.Native.Nat.{◌+◌}
 use native.Mathlib.Omega.{arith}
-use Rattle.little_endian.proofs.Numbers.{number_halves}
+use Rattle.little_endian.specs.Numbers.{number_at}
 use Rattle.little_endian.proofs.u32_at.Goals as goal
 
 pub returns : goal.returns
-returns c = omega (arith, number_halves c.args.s.now c.args.at)
+unfolding number_at
+returns c =
+    let two : c.args.at + 1 + 1 ≡ c.args.at + 2 = omega arith in
+    let three : c.args.at + 2 + 1 ≡ c.args.at + 3 = omega arith in
+    rw (two, three) (omega (arith, c.from_le_bytes.ensures))

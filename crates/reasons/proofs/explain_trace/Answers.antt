@@ -8,20 +8,20 @@ use Rattle.reasons.proofs.explain_trace.Goals as goal
 
 pub explain_all-requires : goal.explain_all-requires
 explain_all-requires c =
-    let t = taken_so _ _ (sym c.judge_trace-verdict.ensures ∙ c.in-Accepted.is) in
+    let t = taken_so _ _ (sym c.judge_trace.ensures ∙ c.in-Ok.is) in
     let both =
-    tells_both c.args.trace.now (length c.args.answers.now) (length c.args.reasons.now) c.fewer-places.ensures
+    tells_both c.args.trace.now (length c.args.answers.now) (length c.args.reasons.now) c.min-places.ensures
     t.tells in
-    record { trace_len_bound = t.size; fits = t.fits; fits_answers = both.0; fits_reasons = both.1 }
+    record { room = record { size = t.size; fits = t.fits; tells = both.0 }; fits_reasons = both.1 }
 
-pub returns-in-Refused : goal.returns-in-Refused
-returns-in-Refused c =
+pub returns-in-Err : goal.returns-in-Err
+returns-in-Err c =
     not_explained c.args.profile c.args.trace.now (runs c.args.costs.now c.args.answers.now) c.args.reasons.now
-    c.args.timing c.fewer-places.ensures
-    (sym c.judge_trace-verdict.ensures ∙ c.in-Refused.is) c.refused.ensures
+    c.args.timing c.min-places.ensures
+    (sym c.judge_trace.ensures ∙ c.in-Err.is) c.refused.ensures
 
-pub returns-in-Accepted : goal.returns-in-Accepted
-returns-in-Accepted c =
+pub returns-in-Ok : goal.returns-in-Ok
+returns-in-Ok c =
     explained c.args.profile c.args.trace.now (runs c.args.costs.now c.args.answers.now) c.args.reasons.now
-    c.args.timing c.fewer-places.ensures
-    (sym c.judge_trace-verdict.ensures ∙ c.in-Accepted.is) c.explain_all.ensures
+    c.args.timing c.min-places.ensures
+    (sym c.judge_trace.ensures ∙ c.in-Ok.is) c.explain_all.ensures

@@ -1,14 +1,14 @@
--- `replay_text`: what `replay_into` gives, and its text lies within the lent bytes.
+-- `replay_text`: the text lies within the lent bytes.
+use mathlib.Core.Path.{◌≡◌}
 use native.Mathlib.Omega.{arith}
+use lib.ListN.{length}
+use borrow.Author.Rules.{rules}
 use Rattle.text.proofs.Writing.{wrote, written_within}
-use Rattle.replaying.specs.Replay.{replay_of}
 use Rattle.replaying.proofs.replay_text.Goals as goal
 
-pub returns : goal.returns
-returns c =
-    let text = replay_of c.args.profile c.args.input.now in
-    let room = written_within c.args.text.now 0 text (omega arith) c.replay_into.ensures c.replay_into.auto.out in
-    record {
-      text_after = c.replay_into.ensures;
-      upper_bound = omega (arith, c.replay_into.auto.out, (wrote c.args.text.now 0 text room c.replay_into.ensures).place);
-    }
+pub returns-clause-upper_bound : goal.returns-clause-upper_bound
+returns-clause-upper_bound c =
+    let e = c.replay_parts.ensures in
+    let same : length c.replay_parts.new.out ≡ length c.args.text.now = search rules in
+    let room = written_within _ 0 _ (omega arith) e same in
+    omega (arith, (wrote _ 0 _ room e).place)

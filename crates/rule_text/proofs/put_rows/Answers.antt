@@ -1,19 +1,11 @@
--- `put_rows`: the rows, one behind the other. The measure is what is left of them.
-use Rattle.rule_text.specs.Lines.{row_count}
-use Rattle.rule_text.proofs.Going.{going_start, going_room, going_turn, going_end}
+-- `put_rows`: there is room for the next, and it stands behind the others.
+use borrow.Author.Rules.{rules}
+use Rattle.rule_text.specs.Lines.{row_count, row_text}
+use Rattle.rule_text.proofs.Each.{each_room, each_on}
 use Rattle.rule_text.proofs.put_rows.Goals as goal
 
-pub loop-row-init : goal.loop-row-init
-loop-row-init c = going_start _ row_count _ _ c.requires
-
 pub put_row-place-requires : goal.put_row-place-requires
-put_row-place-requires c = record {
-  row_lt_row_count = c.loop-row-test.true;
-  row_in_bounds = going_room c.loop-row.invariant c.loop-row-test.true;
-}
+put_row-place-requires c = each_room row_text row_count _ _ _ c.loop-number.invariant (search rules) c.requires
 
-pub loop-row-preserved : goal.loop-row-preserved
-loop-row-preserved c = going_turn c.loop-row.invariant c.loop-row-test.true c.put_row-place.ensures
-
-pub returns : goal.returns
-returns c = going_end c.loop-row.invariant c.loop-row-test.false
+pub loop-number-preserved : goal.loop-number-preserved
+loop-number-preserved c = each_on row_text row_count _ _ _ c.loop-number.invariant (search rules) c.requires c.put_row-place.ensures

@@ -1,11 +1,10 @@
--- `put_rows`: the rows, one behind the other. The measure is what is left of them.
-use Prim.Native.Nat.{◌-◌}
-use Rattle.rule_text.specs.Lines.{row_count, row_text}
-use Rattle.rule_text.proofs.Going.{Going}
+-- `put_rows`: so many of the texts stand there.
+use mathlib.Core.Path.{◌≡◌}
+use Rattle.text.specs.Written.{written, written_of}
+use Rattle.rule_text.specs.Each.{each_from}
+use Rattle.rule_text.specs.Lines.{row_text}
 use Rattle.rule_text.proofs.put_rows.Given as goal
 
-abbrev pub invariant-loop-row : goal.invariant-loop-row
-invariant-loop-row l = Going row_text row_count l.initial.out l.start l.out l.place l.row
-
-abbrev pub decreases-loop-row : goal.decreases-loop-row
-decreases-loop-row l = row_count - l.row
+abbrev pub invariant-loop-number : goal.invariant-loop-number
+invariant-loop-number l =
+    written l.place l.out ≡ written_of l.initial.out l.start (each_from 0 l.number row_text)

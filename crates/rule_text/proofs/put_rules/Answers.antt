@@ -1,19 +1,12 @@
--- `put_rules`: the rules, one behind the other. The measure is what is left of them.
+-- `put_rules`: there is room for the next, and it stands behind the others.
+use borrow.Author.Rules.{rules}
 use Rattle.classifier.specs.Rules.{rule_count}
-use Rattle.rule_text.proofs.Going.{going_start, going_room, going_turn, going_end}
+use Rattle.rule_text.specs.Page.{rule_text}
+use Rattle.rule_text.proofs.Each.{each_room, each_on}
 use Rattle.rule_text.proofs.put_rules.Goals as goal
 
-pub loop-rule-init : goal.loop-rule-init
-loop-rule-init c = going_start _ rule_count _ _ c.requires
-
 pub put_rule-place-requires : goal.put_rule-place-requires
-put_rule-place-requires c = record {
-  rule_lt_rule_count = c.loop-rule-test.true;
-  rule_in_bounds = going_room c.loop-rule.invariant c.loop-rule-test.true;
-}
+put_rule-place-requires c = each_room rule_text rule_count _ _ _ c.loop-number.invariant (search rules) c.requires
 
-pub loop-rule-preserved : goal.loop-rule-preserved
-loop-rule-preserved c = going_turn c.loop-rule.invariant c.loop-rule-test.true c.put_rule-place.ensures
-
-pub returns : goal.returns
-returns c = going_end c.loop-rule.invariant c.loop-rule-test.false
+pub loop-number-preserved : goal.loop-number-preserved
+loop-number-preserved c = each_on rule_text rule_count _ _ _ c.loop-number.invariant (search rules) c.requires c.put_rule-place.ensures

@@ -1,12 +1,10 @@
--- `put_rules`: the rules, one behind the other. The measure is what is left of them.
-use Prim.Native.Nat.{◌-◌}
-use Rattle.classifier.specs.Rules.{rule_count}
+-- `put_rules`: so many of the texts stand there.
+use mathlib.Core.Path.{◌≡◌}
+use Rattle.text.specs.Written.{written, written_of}
+use Rattle.rule_text.specs.Each.{each_from}
 use Rattle.rule_text.specs.Page.{rule_text}
-use Rattle.rule_text.proofs.Going.{Going}
 use Rattle.rule_text.proofs.put_rules.Given as goal
 
-abbrev pub invariant-loop-rule : goal.invariant-loop-rule
-invariant-loop-rule l = Going rule_text rule_count l.initial.out l.start l.out l.place l.rule
-
-abbrev pub decreases-loop-rule : goal.decreases-loop-rule
-decreases-loop-rule l = rule_count - l.rule
+abbrev pub invariant-loop-number : goal.invariant-loop-number
+invariant-loop-number l =
+    written l.place l.out ≡ written_of l.initial.out l.start (each_from 0 l.number rule_text)

@@ -1,11 +1,8 @@
--- `put_lines`: the writing as it goes on (`Going`), record by record; the record that would be refused cannot come. The measure is what is left.
-use Prim.Native.Nat.{◌-◌}
-use lib.ListN.{length}
+-- `put_lines`: the writing as it goes on (`Going`), record by record.
+use mathlib.Core.Path.{◌≡◌}
 use Rattle.showing.proofs.Going.{Going}
 use Rattle.showing.proofs.put_lines.Given as goal
 
-abbrev pub invariant-loop-e : goal.invariant-loop-e
-invariant-loop-e l = Going l.trace l.initial.out l.start l.out l.place l.at
-
-abbrev pub decreases-loop-e : goal.decreases-loop-e
-decreases-loop-e l = length l.trace - l.at
+abbrev pub invariant-loop-at : goal.invariant-loop-at
+invariant-loop-at l =
+    (l.at-iterator.trace.now ≡ l.trace) × Going l.trace l.initial.out l.start l.out l.place l.at-iterator.at

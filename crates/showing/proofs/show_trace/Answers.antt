@@ -7,16 +7,16 @@ use Rattle.showing.proofs.show_trace.Goals as goal
 
 pub put_shown-requires : goal.put_shown-requires
 put_shown-requires c =
-    let v = sym c.judge_short-verdict.ensures ∙ c.in-Accepted.is in
+    let v = sym c.judge_short.ensures ∙ c.in-Ok.is in
     (record { trace_value = shown_sound _ v; trace_in_bounds = omega (arith, shown_room _ v, c.well_formed) })
 
-pub returns-in-Refused : goal.returns-in-Refused
-returns-in-Refused c =
-    let said = shown_refused c.args.trace.now (sym c.judge_short-verdict.ensures ∙ c.in-Refused.is) in
+pub returns-in-Err : goal.returns-in-Err
+returns-in-Err c =
+    let said = shown_refused c.args.trace.now (sym c.judge_short.ensures ∙ c.in-Err.is) in
     let e = rw (← said) at c.put_refusal.ensures in
     (record { text_after = e; upper_bound = within c.args.text.now (shown_of c.args.trace.now) e c.put_refusal.auto.out })
 
-pub returns-in-Accepted : goal.returns-in-Accepted
-returns-in-Accepted c =
-    let e = rw (shown_whole c.args.trace.now (sym c.judge_short-verdict.ensures ∙ c.in-Accepted.is)) at c.put_shown.ensures in
+pub returns-in-Ok : goal.returns-in-Ok
+returns-in-Ok c =
+    let e = rw (shown_whole c.args.trace.now (sym c.judge_short.ensures ∙ c.in-Ok.is)) at c.put_shown.ensures in
     (record { text_after = e; upper_bound = within c.args.text.now (shown_of c.args.trace.now) e c.put_shown.auto.out })

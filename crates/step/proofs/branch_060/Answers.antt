@@ -13,12 +13,14 @@ use Rattle.cost.specs.declared.branch.BranchCost.{BranchCost}
 use Rattle.cost.specs.Branch.{taken_of, branch_of}
 use Rattle.state.specs.declared.Retirement.{Retirement}
 use Rattle.state.specs.declared.Oep060Timing.{Oep060Timing}
+use Rattle.state.specs.declared.Stepped.{Stepped}
 use Rattle.state.specs.Events.{consults, answer_of, cache_after}
 use Rattle.state.specs.CrateCache.{crate_cache}
 use Rattle.state.specs.Timing.{asked, stepped_by}
 use Rattle.state.proofs.Stepping.{left, stepped_branch}
 use borrow.Author.Rules.{rules}
 use Rattle.step.proofs.branch_060.Goals as goal
+use Rattle.step.proofs.branch_060.Goals.{then-consulted, else-consulted}
 
 module _ (c : BranchCache060) (i : Instruction) (k : Controls) where
   updated : consults i k ≡ true → {taken : Bool} → taken ≡ taken_of i k → {next : BranchCache060} → next ≡ cache_update_of c k.ppc taken (not k.supervisor)
@@ -30,6 +32,10 @@ module _ (c : BranchCache060) (i : Instruction) (k : Controls) where
   unfolding cache_after
   kept e = simp e
 
+-- a next state with its cost and answer
+abbrev of : Oep060Timing → BranchCost → Stepped
+of t n = record { timing = t; cost = n.cost; answer = n.answer }
+
 retired : (t : Oep060Timing) (i : Instruction) (r : Retirement) → has i.word.0 BRANCH ≡ true
     → {a : Answer} → a ≡ answer_of crate_cache t.cache i r.controls → {c : BranchCache060} → c ≡ cache_after crate_cache t.cache i r.controls
     → {w : Window} → w ≡ shut → {taken : Bool} → taken ≡ taken_of i r.controls → {d : Bool} → d ≡ has i.word.0 DBCC
@@ -38,14 +44,14 @@ retired t i r b {a} e {c} h {w} q {taken} s {d} f {n} p =
     ap (λ (v : Window). left c v n.cost n.answer) q
     ∙ stepped_branch t i r b (ap₂ asked e h) (p ∙ ap₂ (λ (x y : Bool). branch_of x y t.window.opened a) f s)
 
-pub returns-then-consulted : goal.returns-then-consulted
-returns-then-consulted c =
-    let e = sym c.consulted.ensures ∙ c.if-consulted.true in
-    retired c.args.timing c.args.i c.args.r c.requires c.answered-predicted.ensures (updated c.args.timing.cache c.args.i c.args.r.controls e c.taken-taken.ensures (search rules))
-    c.shut-timing.ensures c.taken-taken.ensures c.has.ensures c.branch_cost_060-charged.ensures
-
-pub returns-else-consulted : goal.returns-else-consulted
-returns-else-consulted c =
-    let e = sym c.consulted.ensures ∙ c.if-consulted.false in
-    retired c.args.timing c.args.i c.args.r c.requires c.answered-predicted.ensures (kept c.args.timing.cache c.args.i c.args.r.controls e)
-    c.shut-timing.ensures c.taken-taken.ensures c.has.ensures c.branch_cost_060-charged.ensures
+pub returns : goal.returns
+returns c =
+    let n = c.branch_cost_060-charged.result in
+    elim c.if-consulted.branch [
+      | then-consulted w ↦ ap (λ (t : Oep060Timing). of t n) w.timing-is
+          ∙ retired c.args.timing c.args.i c.args.r c.requires c.answered-predicted.ensures (updated c.args.timing.cache c.args.i c.args.r.controls (sym c.consulted.ensures ∙ w.if-consulted.true) c.taken-taken.ensures (search rules))
+          c.shut-timing.ensures c.taken-taken.ensures c.has.ensures c.branch_cost_060-charged.ensures
+      | else-consulted w ↦ ap (λ (t : Oep060Timing). of t n) w.timing-is
+          ∙ retired c.args.timing c.args.i c.args.r c.requires c.answered-predicted.ensures (kept c.args.timing.cache c.args.i c.args.r.controls (sym c.consulted.ensures ∙ w.if-consulted.false))
+          c.shut-timing.ensures c.taken-taken.ensures c.has.ensures c.branch_cost_060-charged.ensures
+    ]

@@ -1,79 +1,65 @@
--- `run_records`: the run as it goes on (`Going`), turn by turn, from the window as it is read. The measure is what is left.
+-- `run_records`: the run as it goes on (`Going`), turn by turn, from the window as it is read.
 use mathlib.Core.Path.{◌∙◌}
 use native.Mathlib.Omega.{arith}
 use borrow.Author.Rules.{rules}
 use Rattle.little_endian.proofs.Loops.{set_puts}
 use Rattle.in_place.specs.Lent.{lent, state_at}
 use Rattle.in_place.specs.WindowNumbers.{window_at}
-use Rattle.in_place.proofs.Entries.{known_none}
 use Rattle.refusals.specs.Runs.{runs}
 use Rattle.records.proofs.Reading.{read_end}
 use Rattle.records.specs.Trace.{read_trace}
-use Rattle.trace.proofs.Going.{going_start, going_end, going_bad, going_total}
-use Rattle.trace.proofs.Turning.{turn_gone}
-use Rattle.trace.proofs.Starting.{seen_held, seen_start, outcome_seen}
+use Rattle.trace.specs.TraceTurns.{turned}
+use Rattle.trace.proofs.Going.{going_end, going_bad}
+use Rattle.trace.proofs.Turning.{Gone, turn_gone}
+use Rattle.trace.proofs.Starting.{seen_start, outcome_seen}
 use Rattle.trace.proofs.run_records.Goals as goal
+use Rattle.trace.proofs.run_records.Goals.{After-run_checked-turn}
 
-pub loop-at-init : goal.loop-at-init
-loop-at-init c = (
-  known_none c.args.profile 1024,
-  going_start _ c.args.trace.now (runs c.args.costs.now c.args.answers.now) _ (seen_held c.args.tags.now c.args.state.now (window_at c.args.window.now) c.see_window.ensures) c.requires.fits c.requires.fits_answers,
-)
+-- what the turn does to the run that goes on
+gone : (c : After-run_checked-turn) → Gone (lent c.loop-at.tags c.loop-at.state c.loop-at.window) c.loop-at.invariant.going
+    (turned c.run_checked-turn.result
+    (lent c.run_checked-turn.new.tags c.run_checked-turn.new.state c.run_checked-turn.new.window))
+gone c =
+    turn_gone (lent c.loop-at.tags c.loop-at.state c.loop-at.window) c.loop-at.invariant.going c.loop-at-test.true
+    (rw c.loop-at.invariant.same at c.run_checked-turn.ensures.window_after)
 
 pub run_checked-turn-requires : goal.run_checked-turn-requires
-run_checked-turn-requires c = record { known = c.loop-at.invariant.0; unrefused = λ refusal. going_bad c.loop-at.invariant.1 refusal }
-
-pub overflow_add-total : goal.overflow_add-total
-overflow_add-total c = record { fits = going_total c.loop-at.invariant.1 c.requires.trace_len_bound (search rules) }
-
-pub overflow_mul-count : goal.overflow_mul-count
-overflow_mul-count c =
-    let gone = turn_gone (lent c.loop-at.tags c.loop-at.state c.loop-at.window) c.loop-at.invariant.1 (omega arith) c.run_checked-turn.ensures.window_after (search rules) in
-    omega (arith, (gone.room c.if-turn-gt0.true).0, c.loop-at.invariant.1.same, c.well_formed)
+run_checked-turn-requires c = record { unrefused = λ refusal. going_bad c.loop-at.invariant.going refusal }
 
 pub put_u32-requires : goal.put_u32-requires
-put_u32-requires c =
-    let gone = turn_gone (lent c.loop-at.tags c.loop-at.state c.loop-at.window) c.loop-at.invariant.1 (omega arith) c.run_checked-turn.ensures.window_after (search rules) in
-    (gone.room c.if-turn-gt0.true).0
+put_u32-requires c = ((gone (goal.at.put_u32-requires c).After-run_checked-turn).room c.in-Some.is).0
 
-pub put_answer-requires : goal.put_answer-requires
-put_answer-requires c =
-    let gone = turn_gone (lent c.loop-at.tags c.loop-at.state c.loop-at.window) c.loop-at.invariant.1 (omega arith) c.run_checked-turn.ensures.window_after (search rules) in
-    omega (arith, (gone.room c.if-turn-gt0.true).1)
+pub bounds-answers-count : goal.bounds-answers-count
+bounds-answers-count c = ((gone (goal.at.bounds-answers-count c).After-run_checked-turn).room c.in-Some.is).1
 
-pub overflow_add-count : goal.overflow_add-count
-overflow_add-count c =
-    let g = c.loop-at.invariant.1 in
-    omega (arith, g.few, g.inside, c.requires.trace_len_bound)
+pub loop-at-smaller-in-Some : goal.loop-at-smaller-in-Some
+loop-at-smaller-in-Some c = (gone (goal.at.loop-at-smaller-in-Some c).After-run_checked-turn).nearer
 
-pub loop-at-smaller-then-turn-gt0 : goal.loop-at-smaller-then-turn-gt0
-loop-at-smaller-then-turn-gt0 c =
-    let gone = turn_gone (lent c.loop-at.tags c.loop-at.state c.loop-at.window) c.loop-at.invariant.1 (omega arith) c.run_checked-turn.ensures.window_after (search rules) in
-    gone.nearer
-
-pub loop-at-preserved-then-turn-gt0 : goal.loop-at-preserved-then-turn-gt0
-loop-at-preserved-then-turn-gt0 c =
-    let gone = turn_gone (lent c.loop-at.tags c.loop-at.state c.loop-at.window) c.loop-at.invariant.1 (omega arith) c.run_checked-turn.ensures.window_after (search rules) in (
-      c.run_checked-turn.ensures.known_after,
-      rw (
-        c.put_u32.ensures,
-        c.put_answer.ensures ∙ set_puts c.loop-at.answers c.loop-at.count c.run_checked-turn.result.answer (gone.room c.if-turn-gt0.true).1,
-      )
-          (gone.paid c.if-turn-gt0.true),
-    )
+pub loop-at-preserved-in-Some : goal.loop-at-preserved-in-Some
+loop-at-preserved-in-Some c =
+    let g = gone (goal.at.loop-at-preserved-in-Some c).After-run_checked-turn in
+    record {
+      same = c.run_checked-turn.ensures.profile_after ∙ c.loop-at.invariant.same;
+      going =
+          rw (
+            c.put_u32.ensures,
+            set_puts c.loop-at.answers c.loop-at.count c.in-Some.paid.answer (g.room c.in-Some.is).1,
+          )
+          (g.paid c.in-Some.is (search rules));
+    }
 
 pub loop-at-smaller : goal.loop-at-smaller
-loop-at-smaller c =
-    let gone = turn_gone (lent c.loop-at.tags c.loop-at.state c.loop-at.window) c.loop-at.invariant.1 (omega arith) c.run_checked-turn.ensures.window_after (search rules) in
-    gone.nearer
+loop-at-smaller c = (gone (goal.at.loop-at-smaller c).After-run_checked-turn).nearer
 
 pub loop-at-preserved : goal.loop-at-preserved
-loop-at-preserved c =
-    let gone = turn_gone (lent c.loop-at.tags c.loop-at.state c.loop-at.window) c.loop-at.invariant.1 (omega arith) c.run_checked-turn.ensures.window_after (search rules) in
-    (c.run_checked-turn.ensures.known_after, gone.quiet c.if-turn-gt0.false)
+loop-at-preserved c = record {
+  same = c.run_checked-turn.ensures.profile_after ∙ c.loop-at.invariant.same;
+  going = (gone (goal.at.loop-at-preserved c).After-run_checked-turn).quiet c.in_default.is;
+}
 
 pub returns : goal.returns
 returns c =
-    going_end c.loop-at.invariant.1 (read_end _ _ (omega arith))
-    ∙ outcome_seen c.args.profile (read_trace c.args.trace.now) (runs c.args.costs.now c.args.answers.now) (state_at (lent c.args.tags.now c.args.state.now c.args.window.now))
+    going_end c.loop-at.invariant.going (read_end _ _ (omega arith))
+    ∙ outcome_seen c.args.profile (read_trace c.args.trace.now) (runs c.args.costs.now c.args.answers.now)
+    (state_at (lent c.args.tags.now c.args.state.now c.args.window.now))
     (seen_start c.args.tags.now c.args.state.now (window_at c.args.window.now) c.see_window.ensures)

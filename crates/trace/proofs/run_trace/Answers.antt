@@ -6,11 +6,11 @@ use Rattle.trace.proofs.run_trace.Goals as goal
 
 pub run_all-requires : goal.run_all-requires
 run_all-requires c =
-    let t = taken_so _ _ (sym c.judge_trace-verdict.ensures ∙ c.in-Accepted.is) in
-    record { trace_len_bound = t.size; fits = t.fits; fits_answers = t.tells }
+    let t = taken_so _ _ (sym c.judge_trace.ensures ∙ c.in-Ok.is) in
+    record { size = t.size; fits = t.fits; tells = t.tells }
 
-pub returns-in-Refused : goal.returns-in-Refused
-returns-in-Refused c = not_taken _ _ _ _ (sym c.judge_trace-verdict.ensures ∙ c.in-Refused.is) c.refused.ensures
+pub returns-in-Err : goal.returns-in-Err
+returns-in-Err c = not_taken _ _ _ _ (sym c.judge_trace.ensures ∙ c.in-Err.is) c.refused.ensures
 
-pub returns-in-Accepted : goal.returns-in-Accepted
-returns-in-Accepted c = taken _ _ _ _ (sym c.judge_trace-verdict.ensures ∙ c.in-Accepted.is) c.run_all.ensures
+pub returns-in-Ok : goal.returns-in-Ok
+returns-in-Ok c = taken _ _ _ _ (sym c.judge_trace.ensures ∙ c.in-Ok.is) c.run_all.ensures

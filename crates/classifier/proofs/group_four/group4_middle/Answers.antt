@@ -32,7 +32,7 @@ returns-then-op-eq2112 c =
       miss mull_divl c.args.op c.if-op-eq3072.false,
       hit swap c.args.op c.if-op-eq2112.true,
     )
-    c.new-then-op-eq2112.ensures
+    c.alu.ensures
 
 pub returns-then-is_nbcd_or_ext : goal.returns-then-is_nbcd_or_ext
 unfolding group4

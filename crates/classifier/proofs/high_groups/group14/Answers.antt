@@ -30,4 +30,4 @@ returns-else-op-eq16 c =
       miss size11 c.args.op c.if-op-eq192.false,
       miss rox c.args.op c.if-op-eq16.false,
     )
-    c.new-else-op-eq16.ensures
+    c.alu.ensures

@@ -4,4 +4,4 @@ use Rattle.classifier.proofs.low_groups.group7.Goals as goal
 
 pub returns : goal.returns
 unfolding group7
-returns c = c.new.ensures
+returns c = c.alu.ensures

@@ -13,6 +13,6 @@ pub returns : goal.returns
 unfolding move
 returns c =
     let to = ea (dst_mode_of c.args.op) (dst_reg_of c.args.op) false true in
-    c.new.ensures
+    c.alu.ensures
     ∙ entry_packed PoepSoep 1 1024 (omega arith) refl refl (together (read c.args.op) to)
     (flags_together (read c.args.op) to c.operand_flags-source.ensures c.destination_flags-destination.ensures)

@@ -6,5 +6,5 @@ use Rattle.classifier.proofs.operand.ea_flags.Goals as goal
 pub returns : goal.returns
 returns c =
     flags_ea (c.args.six / 8) (c.args.six % 8) c.args.read c.args.write c.is_memory-is_mem.ensures
-    c.is_indexed-index.ensures c.flag_if_both.ensures c.flag_if_both-2.ensures
-    c.flag_if.ensures
+    c.is_indexed-index.ensures c.flag_if.ensures c.flag_if-2.ensures
+    c.flag_if-3.ensures

@@ -1,11 +1,16 @@
--- `put_each`: the reasons, one behind the other. The measure is what is left of them.
-use Prim.Native.Nat.{◌-◌}
-use Rattle.rule_text.proofs.Going.{Going}
+-- `put_each`: so many of the lines stand there, and the others are left.
+use Prim.Native.Nat.{◌≤◌}
+use mathlib.Core.Path.{◌≡◌}
+use lib.ListN.{length, drop}
+use Rattle.text.specs.Written.{written, written_of}
+use Rattle.rule_text.specs.Each.{each_from}
+use Rattle.reasons.specs.Reasons.{reasons}
 use Rattle.explaining.specs.Inner.{count_text}
 use Rattle.explaining.proofs.counts.put_each.Given as goal
 
-abbrev pub invariant-loop-n : goal.invariant-loop-n
-invariant-loop-n l = Going (count_text l.counts) 14 l.initial.out l.start l.out l.place l.n
-
-abbrev pub decreases-loop-n : goal.decreases-loop-n
-decreases-loop-n l = 14 - l.n
+abbrev pub invariant-loop-reason : goal.invariant-loop-reason
+invariant-loop-reason l =
+    (written l.place l.out ≡ written_of l.initial.out l.start (each_from 0 (length l.yielded) (count_text l.counts)))
+    × (length l.yielded ≤ 14)
+    × (l.reason-iterator.a.rest.now ≡ drop (length l.yielded) reasons)
+    × (l.reason-iterator.b.rest.now ≡ drop (length l.yielded) l.counts)

@@ -1,12 +1,9 @@
--- `put_registers`: the bits, one behind the other. The measure is what is left of them.
-use Prim.Native.Nat.{◌-◌, ◌^◌}
+-- `put_registers`: what so many bits add stands there.
 use mathlib.Core.Path.{◌≡◌}
-use Rattle.rule_text.proofs.Going.{Going}
+use Rattle.text.specs.Written.{written, written_of}
+use Rattle.rule_text.specs.Each.{each_from}
 use Rattle.explaining.specs.Words.{register_text}
 use Rattle.explaining.proofs.registers.put_registers.Given as goal
 
 abbrev pub invariant-loop-n : goal.invariant-loop-n
-invariant-loop-n l = Going (register_text l.mask) 16 l.initial.out l.start l.out l.place l.n × (l.power ≡ 2 ^ l.n)
-
-abbrev pub decreases-loop-n : goal.decreases-loop-n
-decreases-loop-n l = 16 - l.n
+invariant-loop-n l = written l.place l.out ≡ written_of l.initial.out l.start (each_from 0 l.n (register_text l.mask))

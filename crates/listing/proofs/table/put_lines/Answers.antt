@@ -1,58 +1,40 @@
--- `put_lines`: the writing as it goes on (`Going`), record by record; the record that would be refused cannot come. The measure is what is left.
-use mathlib.Core.Path.{◌≡◌, refl, sym, ap, ◌∙◌}
-use mathlib.Core.List.{[], ◌∷◌}
-use native.Mathlib.Omega.{arith}
-use Rattle.state.specs.declared.Event.{Event}
-use Rattle.listing.proofs.TableLines.{going_end, going_bad, going_nearer, going_quiet, going_cost, going_room, going_line}
-use Rattle.state.specs.Events.{count_of}
+-- `put_lines`: the writing as it goes on (`Going`), record by record; a record that would be refused cannot come.
+use mathlib.Core.Path.{refl, ◌∙◌}
+use Rattle.listing.proofs.TableLines.{going_end, going_bad, going_quiet, going_cost, going_room, going_line}
 use Rattle.listing.proofs.table.put_lines.Goals as goal
 
-quiet : {e f : Event} → e ≡ f → count_of (e ∷ []) ≡ count_of (f ∷ [])
-quiet q = ap (λ (e : Event). count_of (e ∷ [])) q
-
-pub loop-e-init : goal.loop-e-init
-loop-e-init c = record { same = refl; room = c.requires.trace_in_bounds; fits = c.requires.fits; leads = refl }
-
-pub returns-in-End : goal.returns-in-End
-returns-in-End c = going_end c.loop-e.invariant (sym c.read_record-read.ensures ∙ c.in-End.is)
-
-pub returns-in-Bad : goal.returns-in-Bad
-returns-in-Bad c = absurd (going_bad c.loop-e.invariant _ (sym c.read_record-read.ensures ∙ c.in-Bad.is))
-
-pub overflow_mul-index : goal.overflow_mul-index
-overflow_mul-index c = omega (arith, going_cost c.loop-e.invariant (sym c.read_record-read.ensures ∙ c.in-Got.is) c.in-Retired.is, c.well_formed)
+pub loop-event-init : goal.loop-event-init
+loop-event-init c = rw (c.into_iter-event-iterator.ensures.into_iter_gives, c.events_of-event-items.ensures.at) (
+  c.events_of-event-items.ensures.trace,
+  record { same = refl; room = c.requires.trace_in_bounds; fits = c.requires.fits; leads = refl },
+)
 
 pub u32_at-clocks-requires : goal.u32_at-clocks-requires
-u32_at-clocks-requires c = going_cost c.loop-e.invariant (sym c.read_record-read.ensures ∙ c.in-Got.is) c.in-Retired.is
+u32_at-clocks-requires c =
+    let i = c.loop-event.invariant in
+    going_cost i.1 (rw (i.0, c.in-Retired.is) at c.in-Some.ensures.steps.0)
 
 pub put_line-place-requires : goal.put_line-place-requires
-put_line-place-requires c = rw c.u32_at-clocks.ensures (going_room c.loop-e.invariant (sym c.read_record-read.ensures ∙ c.in-Got.is) c.in-Retired.is)
+put_line-place-requires c =
+    let i = c.loop-event.invariant in
+    rw c.u32_at-clocks.ensures (going_room i.1 (rw (i.0, c.in-Retired.is) at c.in-Some.ensures.steps.0))
 
-pub overflow_add-index : goal.overflow_add-index
-overflow_add-index c = omega (arith, going_cost c.loop-e.invariant (sym c.read_record-read.ensures ∙ c.in-Got.is) c.in-Retired.is, c.well_formed)
+pub loop-event-preserved-in-Retired : goal.loop-event-preserved-in-Retired
+loop-event-preserved-in-Retired c =
+    let s = c.in-Some.ensures.steps in
+    let i = c.loop-event.invariant in (
+      s.2 ∙ i.0,
+      going_line i.1 (rw (i.0, c.in-Retired.is) at s.0) (rw (← c.u32_at-clocks.ensures) c.put_line-place.ensures),
+    )
 
-pub loop-e-smaller-in-Retired : goal.loop-e-smaller-in-Retired
-loop-e-smaller-in-Retired c = going_nearer c.loop-e.invariant _ _ (sym c.read_record-read.ensures ∙ c.in-Got.is)
+pub loop-event-preserved : goal.loop-event-preserved
+loop-event-preserved c =
+    let s = c.in-Some.ensures.steps in
+    let i = c.loop-event.invariant in
+    (s.2 ∙ i.0, going_quiet i.1 _ _ (rw i.0 at s.0) c.in_default.not-Retired)
 
-pub loop-e-preserved-in-Retired : goal.loop-e-preserved-in-Retired
-loop-e-preserved-in-Retired c =
-    going_line c.loop-e.invariant (sym c.read_record-read.ensures ∙ c.in-Got.is) c.in-Retired.is
-    (rw (← c.u32_at-clocks.ensures) c.put_line-place.ensures)
-
-pub loop-e-smaller-in-Broken : goal.loop-e-smaller-in-Broken
-loop-e-smaller-in-Broken c = going_nearer c.loop-e.invariant _ _ (sym c.read_record-read.ensures ∙ c.in-Got.is)
-
-pub loop-e-preserved-in-Broken : goal.loop-e-preserved-in-Broken
-loop-e-preserved-in-Broken c = going_quiet c.loop-e.invariant _ _ (sym c.read_record-read.ensures ∙ c.in-Got.is) (quiet c.in-Broken.is)
-
-pub loop-e-smaller-in-ClearedAll : goal.loop-e-smaller-in-ClearedAll
-loop-e-smaller-in-ClearedAll c = going_nearer c.loop-e.invariant _ _ (sym c.read_record-read.ensures ∙ c.in-Got.is)
-
-pub loop-e-preserved-in-ClearedAll : goal.loop-e-preserved-in-ClearedAll
-loop-e-preserved-in-ClearedAll c = going_quiet c.loop-e.invariant _ _ (sym c.read_record-read.ensures ∙ c.in-Got.is) (quiet c.in-ClearedAll.is)
-
-pub loop-e-smaller : goal.loop-e-smaller
-loop-e-smaller c = going_nearer c.loop-e.invariant _ _ (sym c.read_record-read.ensures ∙ c.in-Got.is)
-
-pub loop-e-preserved : goal.loop-e-preserved
-loop-e-preserved c = going_quiet c.loop-e.invariant _ _ (sym c.read_record-read.ensures ∙ c.in-Got.is) (quiet c.in-ClearedUser.is)
+pub returns : goal.returns
+returns c =
+    let i = c.loop-event.invariant in
+    let q = rw i.0 at c.in-None.ensures.steps.0 in
+    going_end i.1 (q (going_bad i.1))

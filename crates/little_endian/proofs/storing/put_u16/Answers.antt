@@ -1,19 +1,9 @@
--- `put_u16`: the number's two bytes are stored one behind the other.
-use mathlib.Core.Path.{◌≡◌}
-use mathlib.Core.List.{[], ◌∷◌}
-use Prim.Native.Nat.{◌/◌, ◌%◌}
-use native.Mathlib.Numerals.{add-one}
-use native.Mathlib.Omega.{arith}
-use lib.ListN.{length-set}
-use lib.Seq.{sets-eq}
-use Rattle.little_endian.specs.Numbers.{bytes_of, put_at}
+-- `put_u16`: the bytes that are stored are the number's, the lowest first.
+use mathlib.Core.Path.{refl, ◌∙◌}
+use Rattle.little_endian.specs.Numbers.{bytes_of}
+use Rattle.little_endian.proofs.Numbers.{copy_puts}
 use Rattle.little_endian.proofs.storing.put_u16.Goals as goal
 
-pub bounds-s-at-2 : goal.bounds-s-at-2
-bounds-s-at-2 c = simp length-set (omega arith)
-
 pub returns : goal.returns
-unfolding bytes_of put_at
-returns c =
-    let high : c.args.n / 256 % 256 ≡ c.args.n / 256 = omega arith in
-    rw (high, add-one) (sets-eq (c.args.n % 256 ∷ c.args.n / 256 ∷ []) c.args.s.now c.args.at c.requires)
+unfolding bytes_of
+returns c = copy_puts c.args.s.now c.args.at 2 (bytes_of 2 c.args.n) _ (c.copy_from_slice.ensures.after ∙ c.to_le_bytes.ensures) refl

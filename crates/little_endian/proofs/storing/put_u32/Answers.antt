@@ -1,36 +1,21 @@
--- `put_u32`: the number's halves are put one behind the other.
-use mathlib.Core.Path.{◌≡◌, ap, ◌∙◌}
-use mathlib.Core.List.{List, ◌++◌}
-use Prim.Native.Nat.{ℕ, ◌+◌, ◌*◌, ◌/◌, ◌%◌, ◌≤◌}
-use native.Mathlib.Nat.{mul-add-mod_self_left}
+-- `put_u32`: the bytes that are stored are the number's, the lowest first.
+use mathlib.Core.Path.{◌≡◌, refl, ◌∙◌}
+use Prim.Native.Nat.{ℕ, ◌/◌}
 use native.Mathlib.Omega.{arith}
-use lib.ListN.{length}
-use Rattle.little_endian.specs.Numbers.{bytes_of, put_at}
-use Rattle.little_endian.proofs.Numbers.{bytes_length, put_joins}
+use Rattle.std.specs.Int.{w32, to_le_bytes}
+use Rattle.little_endian.specs.Numbers.{bytes_of}
+use Rattle.little_endian.proofs.Numbers.{copy_puts}
 use Rattle.little_endian.proofs.storing.put_u32.Goals as goal
 
--- the bytes of a number of four bytes are those of its halves
-bytes_halves : (n : ℕ) → bytes_of 4 n ≡ bytes_of 2 (n % 65536) ++ bytes_of 2 (n / 65536)
+-- a byte higher up is found by one division, or by one for each byte below it
+bytes_are : (n : ℕ) → to_le_bytes w32 n ≡ bytes_of 4 n
 unfolding bytes_of
-bytes_halves n =
-    let a : n % 65536 % 256 ≡ n % 256 = omega arith in
-    let h : n / 256 ≡ 256 * (n / 65536) + n % 65536 / 256 = omega arith in
-    let b : n / 256 % 256 ≡ n % 65536 / 256 % 256 = rw h (mul-add-mod_self_left 256 (n / 65536) (n % 65536 / 256)) in
-    let c : n / 256 / 256 ≡ n / 65536 = omega arith in
-    rw (a, ← b, c)
-
--- both halves put are the whole number put
-halves_put : (s : List ℕ) (at n : ℕ) → at + 4 ≤ length s
-    → put_at (put_at s at (bytes_of 2 (n % 65536))) (at + 2) (bytes_of 2 (n / 65536)) ≡ put_at s at (bytes_of 4 n)
-halves_put s at n h =
-    let low : List ℕ = bytes_of 2 (n % 65536) in
-    let two : length low ≡ 2 = bytes_length 2 (n % 65536) in
-    let e : at + length low ≡ at + 2 = omega arith in
-    let j = put_joins s at low (omega arith) (bytes_of 2 (n / 65536)) in
-    rw (← e, bytes_halves n) j
+bytes_are n =
+    let two : n / 65536 ≡ n / 256 / 256 = omega arith in
+    let three : n / 16777216 ≡ n / 256 / 256 / 256 = omega arith in
+    rw (two, three)
 
 pub returns : goal.returns
+unfolding bytes_of
 returns c =
-    c.put_u16-2.ensures
-    ∙ ap (λ (l : List ℕ). put_at l (c.args.at + 2) (bytes_of 2 (c.args.n / 65536))) c.put_u16.ensures
-    ∙ halves_put c.args.s.now c.args.at c.args.n (omega arith)
+    copy_puts c.args.s.now c.args.at 4 (bytes_of 4 c.args.n) _ (c.copy_from_slice.ensures.after ∙ c.to_le_bytes.ensures ∙ bytes_are c.args.n) refl

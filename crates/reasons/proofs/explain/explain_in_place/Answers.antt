@@ -7,5 +7,5 @@ pub returns : goal.returns
 returns c =
     explained_so c.args.profile (lent c.args.tags.now c.args.state.now c.args.window.now) c.args.r
     c.looked_up-i.ensures c.window_at-met.ensures _ c.retire_in_place-told.ensures
-    c.clocks_in-cost.ensures c.answer_in.ensures c.answer_at-answer.ensures c.reason_of-reason.ensures
+    c.clocks_in-cost.ensures c.answer_in.ensures c.from-answer.ensures c.reason_of-reason.ensures
     c.shared-registers.ensures

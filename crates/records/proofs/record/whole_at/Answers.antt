@@ -3,18 +3,8 @@ use mathlib.Core.Path.{ap, ◌∙◌}
 use Prim.Native.Nat.{ℕ}
 use native.Mathlib.Omega.{arith}
 use lib.Dec.{eqb}
-use Rattle.records.proofs.Whole.{Wholly, whole_not, head_is_lem}
+use Rattle.records.proofs.Whole.{head_is_lem}
 use Rattle.records.proofs.record.whole_at.Goals as goal
-
-pub returns-then-trace-lt20 : goal.returns-then-trace-lt20
-returns-then-trace-lt20 c =
-    let a = c.args in
-    whole_not a.trace.now a.at (λ (w : Wholly a.trace.now a.at). omega (arith, w.there, c.if-trace-lt20.true))
-
-pub returns-then-trace-at : goal.returns-then-trace-at
-returns-then-trace-at c =
-    let a = c.args in
-    whole_not a.trace.now a.at (λ (w : Wholly a.trace.now a.at). omega (arith, w.there, c.if-trace-at.true))
 
 pub returns : goal.returns
 returns c =

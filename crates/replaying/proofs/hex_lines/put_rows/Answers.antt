@@ -1,20 +1,19 @@
--- `put_rows`: the rows of 32 bytes one by one (`Rows`), then the last. The measure is what is left.
-use mathlib.Core.Path.{refl}
-use native.Mathlib.Omega.{arith}
-use Rattle.replaying.proofs.Rows.{rows_start, rows_next, rows_end}
+-- `put_rows`: the rows one by one (`Rows`); the iterator has the bytes that are left.
+use borrow.Author.Rules.{rules}
+use mathlib.Core.Path.{◌∙◌}
+use Rattle.replaying.proofs.Rows.{rows_next, rows_end}
 use Rattle.replaying.proofs.hex_lines.put_rows.Goals as goal
 
-pub loop-row-init : goal.loop-row-init
-loop-row-init c = rows_start _ _ _
-
-pub put_row-place-requires : goal.put_row-place-requires
-put_row-place-requires c = (record { count_in_bounds = omega (arith, c.requires.image_len); out_in_bounds = omega (arith, c.loop-row.invariant.at, c.loop-row.invariant.same, c.requires.start_in_bounds) })
-
 pub loop-row-preserved : goal.loop-row-preserved
-loop-row-preserved c = rows_next c.loop-row.invariant c.requires.image_len c.requires.start_in_bounds c.loop-row-test.true c.put_row-place.ensures
-
-pub put_row-requires : goal.put_row-requires
-put_row-requires c = (record { count_in_bounds = omega (arith, c.requires.image_len); out_in_bounds = omega (arith, c.loop-row.invariant.at, c.loop-row.invariant.inside, c.loop-row.invariant.same, c.requires.start_in_bounds) })
+loop-row-preserved c =
+    let steps = c.in-Some.ensures.steps in
+    let size = c.loop-row.invariant.size in
+    record {
+      can_next = search rules;
+      is_finite = search rules;
+      size = steps.0 ∙ size;
+      rows = rows_next c.loop-row.invariant.rows _ _ steps.1.0 (rw size at steps.1.1) steps.1.2 c.put_row-place.ensures;
+    }
 
 pub returns : goal.returns
-returns c = rows_end c.loop-row.invariant c.requires.image_len c.requires.start_in_bounds c.loop-row-test.false c.put_row.ensures refl
+returns c = rows_end c.loop-row.invariant.rows c.in-None.ensures.steps.1.0
