@@ -41,7 +41,7 @@ struct Put {
 }
 
 // A line for each retirement of a trace whose records are all sound, at most 3,276, stepped on lent numbers.
-// Stays a clause of two here (`FitsAnswers`): it bounds how many lines there are, and a trace alone says it.
+// Stays a `requires` that stands twice here (`FitsAnswers`): it bounds how many lines there are, by the trace alone.
 fn put_lines(
     trace: &[u8],
     out: &mut [u8],

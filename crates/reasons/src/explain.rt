@@ -55,7 +55,7 @@ pub fn explain_in_place(
 }
 
 // One event in place: only a retirement has a reason.
-// Stays beside `in_place::event_at`: a second caller in the host's library would take that out of the run, for speed.
+// Stays beside `in_place::event_at`: were that called here too, the compiler would not lay it into the trace run.
 pub fn explain_event(
     tags: &mut [u32; 256],
     state: &mut [u8; 256],

@@ -31,7 +31,7 @@ impl<'a> Iterator for Events<'a> {
     }
 }
 
-// All records of a trace.
+// A walk from a trace's first record on.
 pub fn events_of(trace: &[u8]) -> Events
     ensures trace { result.trace.now ≡ trace.now }
     ensures at { result.at ≡ 0 }

@@ -26,7 +26,7 @@ pub struct Sums {
 }
 
 // Runs a trace whose records are all sound and whose costs and answers have room, on lent numbers.
-// Stays a clause of four, here and in `reasons`: it joins a trace with runs that are lent apart, and no value has both.
+// Stays a `requires` that stands four times, here and in `reasons`: it joins a trace with runs that are lent apart.
 // Stays a while over places: to test a whole retirement's flags again cost 0.3 to 1.7 ns (docs/DECISIONS.md).
 fn run_records(
     trace: &[u8],
