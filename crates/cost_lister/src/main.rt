@@ -15,9 +15,10 @@ fn main(rt: HostRuntime) -> io::Result<()> {
     };
     // One byte more than is taken, so that longer input is seen to be longer.
     let mut bytes = [0u8; 65537];
-    input::on_input(&rt, "cost_lister", &mut bytes, |trace| {
-        let mut text = [0u8; LISTING_ROOM];
-        let listed = listing::list_trace(trace, &mut text, Oep060Timing::fresh(), profile);
-        rt.write_all(&text[..listed.len])
-    })
+    let Some(trace) = input::on_input(&rt, "cost_lister", &mut bytes)? else {
+        return Ok(());
+    };
+    let mut text = [0u8; LISTING_ROOM];
+    let listed = listing::list_trace(trace, &mut text, Oep060Timing::fresh(), profile);
+    rt.write_all(&text[..listed.len])
 }

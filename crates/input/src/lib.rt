@@ -1,12 +1,12 @@
 // What the tools read before they work: standard input, whole, and the words behind a program's name.
 //
 // `read_input` reads standard input; `words` has the words. A program lends one byte more than it takes, so that longer
-// input is seen to be longer. `on_input` hands on what came.
+// input is seen to be longer. `on_input` hands back what came, for the four programs that read a trace.
 #![tactic(auto)]
 
 mod words;
 
-ghost use Rattle.std.specs.Prelude.{length, ◌≤◌};
+ghost use Rattle.std.specs.Prelude.{length, ◌≤◌, IfOk, IfSome};
 ghost use Rattle.input.specs.Input.{Within};
 
 use std::io;
@@ -29,17 +29,18 @@ pub fn read_input(rt: &impl io::Input, buf: &mut [u8]) -> io::Result<usize>
     Ok(done)
 }
 
-// Hands the bytes of standard input on; where it cannot be read, says so on standard error, behind the program's name.
-pub fn on_input<F: FnOnce(&[u8]) -> io::Result<()>>(
+// The bytes of standard input, in the lent room. Where it cannot be read there are none, and that is said on standard
+// error, behind the program's name.
+pub fn on_input<'a>(
     rt: &(impl io::Input + Eprint),
     program: &str,
-    room: &mut [u8],
-    act: F,
-) -> io::Result<()>
-    requires { F.IsAlwaysCallable act }
+    room: &'a mut [u8],
+) -> io::Result<Option<&'a [u8]>>
+    ensures { IfOk result (λ came. IfSome came (λ bytes. length bytes.now ≤ length room.old)) }
 {
     let Ok(taken) = read_input(rt, room) else {
-        return eprintln!(rt; "{program}: standard input cannot be read");
+        eprintln!(rt; "{program}: standard input cannot be read")?;
+        return Ok(None);
     };
-    act(&room[..taken])
+    Ok(Some(&room[..taken]))
 }

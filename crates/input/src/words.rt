@@ -1,6 +1,6 @@
 // The words by which a program is told what to do: `crate` or `mended`, or none, which is the crate's profile; and of
 // `why` also `full`, before or behind it.
-ghost use Rattle.std.specs.Prelude.{◌≡◌, Some};
+ghost use Rattle.std.specs.Prelude.{◌≡◌, ◌≤◌, length, Some};
 ghost use Rattle.input.specs.Words.{Names, chosen_of, Says, one_asks, both_ask, asks_of};
 
 use profile::Profile;
@@ -58,7 +58,9 @@ fn argument_count(rt: &impl Env) -> usize {
 
 // An argument, in the buffer: nothing of it where it does not fit, or is not there.
 // Stays a buffer that is lent: std's list of the arguments is made on the heap, and memory is fixed.
-fn argument<'a>(rt: &impl Env, i: usize, buf: &'a mut [u8]) -> &'a [u8] {
+fn argument<'a>(rt: &impl Env, i: usize, buf: &'a mut [u8]) -> &'a [u8]
+    ensures { length result.now ≤ length buf.old }
+{
     let n = rt.arg(i, buf).unwrap_or(0);
     &buf[..n]
 }

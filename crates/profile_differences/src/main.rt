@@ -19,13 +19,13 @@ fn line(op: u16, own: Instruction, mended: Instruction) -> [u8; 35]
     ensures { result ≡ difference_line op own mended }
 {
     let mut line = [b' '; 35];
-    text::put_hex::<4>(&mut line, 0, op as u32);
-    text::put_hex::<4>(&mut line, 5, own.word.0 as u32);
-    text::put_hex::<4>(&mut line, 10, own.uses as u32);
-    text::put_hex::<4>(&mut line, 15, own.defs as u32);
-    text::put_hex::<4>(&mut line, 20, mended.word.0 as u32);
-    text::put_hex::<4>(&mut line, 25, mended.uses as u32);
-    text::put_hex::<4>(&mut line, 30, mended.defs as u32);
+    line[0..4].copy_from_slice(&text::hex_digits::<4>(op as u32));
+    line[5..9].copy_from_slice(&text::hex_digits::<4>(own.word.0 as u32));
+    line[10..14].copy_from_slice(&text::hex_digits::<4>(own.uses as u32));
+    line[15..19].copy_from_slice(&text::hex_digits::<4>(own.defs as u32));
+    line[20..24].copy_from_slice(&text::hex_digits::<4>(mended.word.0 as u32));
+    line[25..29].copy_from_slice(&text::hex_digits::<4>(mended.uses as u32));
+    line[30..34].copy_from_slice(&text::hex_digits::<4>(mended.defs as u32));
     line[34] = b'\n';
     line
 }

@@ -14,9 +14,10 @@ fn main(rt: HostRuntime) -> io::Result<()> {
     };
     // The longer image, the longest trace, and one byte more, so that longer input is seen to be longer.
     let mut bytes = [0u8; 66831];
-    input::on_input(&rt, "replay", &mut bytes, |image_and_trace| {
-        let mut text = [0u8; REPLAY_ROOM];
-        let len = replaying::replay_text(image_and_trace, &mut text, profile);
-        rt.write_all(&text[..len])
-    })
+    let Some(image_and_trace) = input::on_input(&rt, "replay", &mut bytes)? else {
+        return Ok(());
+    };
+    let mut text = [0u8; REPLAY_ROOM];
+    let len = replaying::replay_text(image_and_trace, &mut text, profile);
+    rt.write_all(&text[..len])
 }

@@ -9,9 +9,10 @@ use std::io;
 fn main(rt: HostRuntime) -> io::Result<()> {
     // One byte more than is taken, so that longer input is seen to be longer.
     let mut bytes = [0u8; 65537];
-    input::on_input(&rt, "show_trace", &mut bytes, |trace| {
-        let mut text = [0u8; SHOWING_ROOM];
-        let len = showing::show_trace(trace, &mut text);
-        rt.write_all(&text[..len])
-    })
+    let Some(trace) = input::on_input(&rt, "show_trace", &mut bytes)? else {
+        return Ok(());
+    };
+    let mut text = [0u8; SHOWING_ROOM];
+    let len = showing::show_trace(trace, &mut text);
+    rt.write_all(&text[..len])
 }

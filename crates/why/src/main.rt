@@ -17,9 +17,10 @@ fn main(rt: HostRuntime) -> io::Result<()> {
     };
     // One byte more than is taken, so that longer input is seen to be longer.
     let mut bytes = [0u8; 65537];
-    input::on_input(&rt, "why", &mut bytes, |trace| {
-        let mut text = [0u8; WHY_ROOM];
-        let len = explaining::why_text(trace, &mut text, Oep060Timing::fresh(), profile, full);
-        rt.write_all(&text[..len])
-    })
+    let Some(trace) = input::on_input(&rt, "why", &mut bytes)? else {
+        return Ok(());
+    };
+    let mut text = [0u8; WHY_ROOM];
+    let len = explaining::why_text(trace, &mut text, Oep060Timing::fresh(), profile, full);
+    rt.write_all(&text[..len])
 }
