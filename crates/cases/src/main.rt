@@ -5,7 +5,7 @@
 // the batch of words and the explained trace of `host`, or the break of `window`. `print_line` prints what came of it.
 #![tactic(auto)]
 
-ghost use Rattle.std.specs.Prelude.{◌≡◌, ◌+◌, ◌*◌, ◌≤◌, length};
+ghost use Rattle.std.specs.Prelude.{◌≡◌, ◌+◌, ◌*◌, ◌/◌, ◌%◌, ◌≤◌, length};
 
 use host::HostRan;
 use image::IMAGE_LENGTH;
@@ -134,8 +134,8 @@ fn print_hex(rt: &impl Print, bytes: &[u8]) -> io::Result<()> {
         return Ok(());
     }
     let mut text = space();
-    for (i, byte) in bytes.iter().enumerate() {
-        text::put_hex::<2>(&mut text, 2 * i, *byte as u32);
+    for (place, byte) in text.chunks_exact_mut(2).zip(bytes) {
+        place.copy_from_slice(&text::hex_digits::<2>(*byte as u32));
     }
     rt.write_all(&text[..2 * n])
 }
@@ -192,7 +192,9 @@ fn fill(lent: &mut [u8]) {
 
 // The 32-bit words of bytes, the lowest byte first, in the first of a buffer. One to three bytes that are left over are
 // not read; no case has more than 16,383 words.
-fn words_of<'a>(bytes: &[u8], buffer: &'a mut [u32; 16384]) -> &'a mut [u32] {
+fn words_of<'a>(bytes: &[u8], buffer: &'a mut [u32; 16384]) -> &'a mut [u32]
+    ensures { length result.now ≡ length bytes.now / 4 % 16384 }
+{
     let count = bytes.len() / 4 % 16384;
     let words = &mut buffer[..count];
     for (i, word) in words.iter_mut().enumerate() {
