@@ -16,8 +16,8 @@ use window::Instruction;
 // A run of few retirements pays for clearing it, and one of many opcodes for those that share a slot: docs/SPEED.md.
 pub const DECODED: usize = 1024;
 
-// The table of a run: each entry is 0, or says of its opcode what the profile says. Too large to be copied.
-#[derive(Drop)]
+// The table of a run: each entry is 0, or says of its opcode what the profile says. It is large, and a run lends it.
+#[derive(Clone, Copy)]
 pub struct Decoded {
     pub profile: Profile,
     pub entries: [u64; DECODED],
