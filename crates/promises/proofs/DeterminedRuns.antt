@@ -1,12 +1,12 @@
 -- The promise of each public function of part 6 of document 01, as the checker reads it, allows one answer at each input, lent bytes included.
 -- Assumes nothing.
-use mathlib.Core.Path.{◌≡◌, refl, sym, ap, ◌∙◌}
+use mathlib.Core.Path.{◌≡◌, refl, sym, ap, ap₂, ◌∙◌}
 use mathlib.Core.List.{List}
 use Prim.Native.Nat.{ℕ}
 use native.Mathlib.Omega.{arith}
 use lib.ListN.{length}
 use contract.Lifetimes
-use Rattle.std.specs.Prelude.{Option, Some, None}
+use Rattle.std.specs.Prelude.{Option, Some, None, Ok, Err}
 use mir.Syntax.{w64}
 use mir.Val.{Fits}
 use Rattle.refusals.specs.Runs.{runs}
@@ -26,6 +26,11 @@ use Rattle.little_endian.proofs.put_u32.Reads as little-endian-put-u32
 use Rattle.records.proofs.kinds.KindTryFromU16.try_from.Reads as records-kind-try-from-u16
 use Rattle.records.proofs.read_record.Reads as records-read-record
 use Rattle.records.proofs.events_of.Reads as records-events-of
+use Rattle.records.proofs.events.EventsIterator.next.Reads as records-events-next
+use Rattle.records.specs.declared.events.Events.{Events}
+use Rattle.records.specs.Record.{Read, got, ended, read_at, Unrefused}
+use Rattle.records.specs.Walk.{Gives}
+use Rattle.state.specs.declared.Event.{Event}
 use Rattle.records.proofs.whole_at.Reads as records-whole-at
 use Rattle.records.proofs.retirement_at.Reads as records-retirement-at
 use Rattle.records.proofs.check_all.Reads as records-check-all
@@ -73,6 +78,33 @@ names_one word (Some Crate) None p q = absurd (q.0 p)
 names_one word (Some Mended) None p q = absurd (q.1 p)
 names_one word None (Some Crate) p q = absurd (p.0 q)
 names_one word None (Some Mended) p q = absurd (p.1 q)
+
+-- a walk that gives a record has not ended there
+not_ended : (trace : List ℕ) (at : ℕ) {e : Event} {n : ℕ} → read_at trace at ≡ got e n → (Unrefused trace at → read_at trace at ≡ ended) → ⊥
+not_ended trace at q end =
+    let taken : Unrefused trace at = λ refusal p. (let z : ◌≡◌ {A = ℕ} 0 1 = cc in omega arith) in
+    let over : read_at trace at ≡ ended = end taken in
+    let z : ◌≡◌ {A = ℕ} 0 1 = cc in
+    omega arith
+
+-- what was read, or else another
+abbrev given : ℕ × Event → Read → ℕ × Event
+given x (Ok (Some (e, next))) = (next, e)
+given x (Ok None) = x
+given x (Err refusal) = x
+
+gives_one : (old : Events) (o o' : Option (ℕ × Event)) (new new' : Events) → Gives old o new → Gives old o' new' → o ≡ o'
+gives_one old None None new new' p q = refl
+gives_one old None (Some x) new new' p q = absurd (not_ended old.trace.now old.at q.0 p.0)
+gives_one old (Some x) None new new' p q = absurd (not_ended old.trace.now old.at p.0 q.0)
+gives_one old (Some (at, e)) (Some (at', e')) new new' p q =
+    ap₂ (λ n f. Some (n, f)) (p.1 ∙ sym q.1) (ap (λ r. (given (0, e) r).1) (sym p.0 ∙ q.0))
+
+gives_place : (old : Events) (o o' : Option (ℕ × Event)) (new new' : Events) → Gives old o new → Gives old o' new' → new.at ≡ new'.at
+gives_place old None None new new' p q = p.1 ∙ sym q.1
+gives_place old None (Some x) new new' p q = absurd (not_ended old.trace.now old.at q.0 p.0)
+gives_place old (Some x) None new new' p q = absurd (not_ended old.trace.now old.at p.0 q.0)
+gives_place old (Some (at, e)) (Some (at', e')) new new' p q = ap (λ r. (given (0, e) r).0) (sym p.0 ∙ q.0)
 
 module _ (κs : Lifetimes.Lfts 1) where
   pub input_profile_named_determined : Determined result (input-profile-named.Post κs)
@@ -127,6 +159,14 @@ module _ (κs : Lifetimes.Lfts 1) where
 module _ (κs : Lifetimes.Lfts 3) where
   pub trace_run_trace_determined : Determined (λ r x. trace_outcome r (runs x.1.0.now x.1.1.0.now)) (trace-run-trace.Post κs)
   trace_run_trace_determined i r r' x x' p q = p ∙ sym q
+
+-- what a walk gives, and where it goes on
+module _ (κs : Lifetimes.Lfts 2) where
+  pub records_events_next_determined : Determined result (records-events-next.Post κs)
+  records_events_next_determined i r r' x x' p q = gives_one i.0.now r r' x.0.now x'.0.now p.0 q.0
+
+  pub records_events_next_at_determined : Determined (λ r x. x.0.now.at) (records-events-next.Post κs)
+  records_events_next_at_determined i r r' x x' p q = gives_place i.0.now r r' x.0.now x'.0.now p.0 q.0
 
 -- of any number of digits
 module _ (DIGITS : ℕ) (fits : Fits w64 DIGITS) (κs : Lifetimes.Lfts 2) where
