@@ -69,8 +69,8 @@ function scan(s, i,    n, k, c, before, rest, w, alt) {
 FNR == 1 { crate = FILENAME; sub(/^crates\//, "", crate); sub(/\/.*/, "", crate); sig = contract = decl = table = skipped = 0; fn = "-" }
 { t = $0; sub(/^ +/, "", t) }
 t == "" || t ~ /^\/\// { next }
-# an import or an attribute, over as many lines as it has
-skipped || t ~ /^((pub )?(use|mod|type) |ghost use |#!?\[)/ { skipped = t !~ /[;\]]$/; next }
+# an import, an attribute or the law of a trait, over as many lines as it has
+skipped || t ~ /^((pub )?(use|mod|type) |ghost (use |[a-z_]+ = )|#!?\[)/ { skipped = t !~ /[;\]]$/; next }
 
 # Fields of a type, cases with the same payload, constants of a type: each may stand for another of them.
 pass == 1 {
@@ -88,9 +88,13 @@ pass == 1 {
     next
 }
 
-# Contracts, signatures and declarations are not changed.
+# Contracts, signatures and declarations are not changed, but for the number of a case: to one that no case has.
 contract > 0 || (sig && t ~ /^(requires|ensures)\*? ([a-z_0-9]+ )?\{/) { contract += braces(t); next }
-decl > 0 || t ~ /^(pub )?(struct|enum) / { decl += braces(t); next }
+decl > 0 && match(t, /^[A-Z][A-Za-z0-9]* = [0-9]+,$/) {
+    lines[crate]++; fn = type; name = t; gsub(/^.* = |,$/, "", name)
+    change(index($0, " = ") + 3, name, sprintf("%.0f", name + 64)); next
+}
+decl > 0 || t ~ /^(pub )?(struct|enum) / { if (decl == 0) { type = t; sub(/ *[{(;<].*/, "", type); sub(/.* /, "", type) } decl += braces(t); next }
 match(t, /^(pub )?(const )?(extern "C" )?fn [A-Za-z0-9_]+/) { fn = substr(t, 1, RLENGTH); sub(/.* /, "", fn); sig = 1 }
 sig { if (t ~ /\{$/) sig = 0; next }
 t ~ /^[][{}(),;]+$/ { table = 0; next }
