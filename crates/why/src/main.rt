@@ -11,16 +11,17 @@ use input::Request;
 use state::Oep060Timing;
 use std::io;
 
+// The buffers stand before all that can end it, or the compiler clears them twice.
 fn main(rt: HostRuntime) -> io::Result<()> {
+    // One byte more than is taken, so that longer input is seen to be longer.
+    let mut bytes = [0u8; 65537];
+    let mut text = [0u8; WHY_ROOM];
     let Some(Request { full, profile }) = input::read_words(&rt) else {
         return eprintln!(rt; "why: the words are [full] [crate|mended]");
     };
-    // One byte more than is taken, so that longer input is seen to be longer.
-    let mut bytes = [0u8; 65537];
     let Some(trace) = input::on_input(&rt, "why", &mut bytes)? else {
         return Ok(());
     };
-    let mut text = [0u8; WHY_ROOM];
     let len = explaining::why_text(trace, &mut text, Oep060Timing::fresh(), profile, full);
     rt.write_all(&text[..len])
 }
